@@ -1,0 +1,6 @@
+pub mod Numbers
+pub mod Root
+pub mod Significand
+pub mod Units
+pub mod Laws
+pub mod Examples

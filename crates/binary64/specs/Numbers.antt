@@ -26,3 +26,20 @@ magnitude (fin s m e) = fin false m e
 -- that one open, and is asked for magnitudes alone.
 unfoldable pub larger : Float → Float → Float
 larger a b = cond (isNan a) b (cond (Ieee.lt a b) b a)
+
+-- one operation of binary64, rounded to nearest, ties to even
+infixl 65 _⊕_
+infixl 65 _⊖_
+infixl 70 _⊗_
+infixl 70 _⊘_
+abbrev pub _⊕_ : Float → Float → Float
+a ⊕ b = Ieee.add binary64 a b
+
+abbrev pub _⊖_ : Float → Float → Float
+a ⊖ b = Ieee.sub binary64 a b
+
+abbrev pub _⊗_ : Float → Float → Float
+a ⊗ b = Ieee.mul binary64 a b
+
+abbrev pub _⊘_ : Float → Float → Float
+a ⊘ b = Ieee.div binary64 a b

@@ -1,0 +1,88 @@
+-- What the checks establish once they pass. Assumes nothing.
+use mathlib.Core.Path.{_≡_, refl, sym, _∙_}
+use mathlib.Core.List.{List, [], _∷_}
+use mathlib.Core.Bool.{Bool, true, false, not, cond}
+use Prim.Native.Nat.{ℕ, _+_, _-_, _/_, _≤_, _<_}
+use native.Mathlib.Omega.{arith}
+use lib.Dec.{eqb, leb, ltb}
+use lib.ListN.{length}
+use borrow.Author.Tests.{eqb-true, eqb-false, ltb-true, ltb-false, leb-true, leb-false, not-false}
+use Rattle.mesh.specs.Answers.{orElse, firstOf, pass, at}
+use Rattle.mesh.specs.Records.{firstAt, secondAt}
+use Rattle.mesh.specs.Search.{someOf, lowestWhere, Names}
+use Rattle.mesh.specs.Checks.{sizeTests, sizesOk, badFace, lowestBadFace, unknownCode, lowestUnknownCode, badLink, NamesBadLink}
+use Rattle.mesh.specs.Chains.{stepOf, ends, headAt, cellCount, brokenCell, lowestBroken, Chain}
+use Rattle.mesh.specs.Facts.{Small, CellsOf, FacesIn, CodesIn, ChainsIn, LinkOf, LinksIn}
+use Rattle.mesh.specs.declared.Counts.{Counts}
+use Rattle.mesh.specs.declared.Answer.{Answer}
+use Rattle.mesh.specs.declared.Answer.the-variants.{Accepted, Refused}
+use Rattle.mesh.specs.declared.Found.{Found}
+use Rattle.mesh.specs.declared.Found.the-variants.{Nothing, At}
+use Rattle.mesh.specs.declared.chain.Form.{Form}
+use Rattle.mesh.proofs.Truth.{every-at, some-at}
+use Rattle.mesh.proofs.Search.{none-below}
+
+-- ---- answers
+pub both-accepted : (a b : Answer) → orElse a b ≡ Accepted → (a ≡ Accepted) × (b ≡ Accepted)
+unfolding orElse
+both-accepted Accepted b h = (refl, h)
+both-accepted (Refused k i) b h = (h, cc)
+
+pub passed : (k : ℕ) (t : Bool) → pass k t ≡ Accepted → t ≡ true
+unfolding pass
+passed k true h = refl
+passed k false h = cc
+
+pub nothing-at : (k : ℕ) (f : Found) → at k f ≡ Accepted → f ≡ Nothing
+unfolding at
+nothing-at k Nothing h = refl
+nothing-at k (At i) h = cc
+
+-- ---- each check
+pub small : (n : Counts) → sizesOk n ≡ true → Small n
+small n h =
+    let w = every-at (ltb 0 (n .cells)) (sizeTests n) h in
+    record { some = ltb-true _ _ (w .0); cells = leb-true _ _ (w .1 0); faces = leb-true _ _ (w .1 1); facings = leb-true _ _ (w .1 2); borderings = leb-true _ _ (w .1 3) }
+
+pub faces-in : (cells : ℕ) (adjacency : List ℕ) → lowestBadFace cells adjacency ≡ Nothing → FacesIn cells adjacency
+faces-in cells adjacency h f l =
+    let w =
+    some-at (leb cells (firstAt adjacency f)) (ltb cells (secondAt adjacency f) ∷ eqb (secondAt adjacency f) (firstAt adjacency f + 1) ∷ [])
+    (none-below (badFace cells adjacency) (length adjacency / 2) f h l) in
+    record { owner = leb-false _ _ (w .0); neighbour = ltb-false _ _ (w .1 0); apart = eqb-false _ _ (w .1 1) }
+
+pub codes-in : (codes : List ℕ) → lowestUnknownCode codes ≡ Nothing → CodesIn codes
+codes-in codes h f l = ltb-false _ _ (none-below (unknownCode codes) (length codes / 2) f h l)
+
+pub chains-in : (limit : ℕ) (records : List ℕ) (form : Form) (heads : List ℕ) → lowestBroken limit records form heads ≡ Nothing → ChainsIn limit records form heads
+unfolding brokenCell
+chains-in limit records form heads h c l =
+    let e = none-below (brokenCell limit records form heads) (cellCount form heads) c h l in
+    record { left = length records / 2; within = omega arith; sound = not-false (ends (stepOf limit records) (length records / 2) (headAt form heads c)) e }
+
+-- the tests of a link, by the peer's
+link-tests : (peer faces : ℕ) (z m r : Bool) → z ≡ eqb peer 0 → m ≡ ltb faces peer → (peer ≡ 0 → ⊥) → cond z false (cond m true r) ≡ false → (peer ≤ faces) × (r ≡ false)
+link-tests peer faces true m r ez em nz h = absurd (nz (eqb-true peer 0 (sym ez)))
+link-tests peer faces false true r ez em nz h = let z : _≡_ {A = ℕ} 0 1 = cc in absurd (omega arith)
+link-tests peer faces false false r ez em nz h = (ltb-false faces peer (sym em), h)
+
+pub links-in : (adjacency codes : List ℕ) → NamesBadLink adjacency codes Nothing → LinksIn adjacency codes
+unfolding Names badLink
+links-in adjacency codes h f l nz =
+    let peer = secondAt codes f in
+    let t =
+    link-tests peer (length codes / 2) (eqb peer 0) (ltb (length codes / 2) peer) _ refl refl nz
+    (none-below (badLink adjacency codes) (length codes / 2) f h l) in
+    let w = some-at (not (eqb (secondAt adjacency f) 0)) (eqb peer (f + 1) ∷ not (eqb (secondAt codes (peer - 1)) (f + 1)) ∷ []) (t .1) in
+    record {
+      one-cell = eqb-true _ _ (not-false _ (w .0));
+      present = t .0;
+      other = eqb-false _ _ (w .1 0);
+      back = eqb-true _ _ (not-false _ (w .1 1));
+    }
+
+-- nothing follows the last check
+pub or-accepted : (a : Answer) → orElse a Accepted ≡ a
+unfolding orElse
+or-accepted Accepted = refl
+or-accepted (Refused k i) = refl

@@ -1,0 +1,73 @@
+-- Where every check of a mesh passes, what later functions read by is in range. Assumes nothing.
+use mathlib.Core.Path.{_≡_, refl, sym, _∙_, subst}
+use mathlib.Core.List.{List, [], _∷_}
+use mathlib.Core.Bool.{Bool, true, _&&_}
+use Prim.Native.Nat.{ℕ, _*_, _/_, _<_}
+use native.Mathlib.Omega.{arith}
+use lib.Dec.{eqb}
+use lib.ListN.{length}
+use borrow.Author.Tests.{eqb-true}
+use Rattle.mesh.specs.Answers.{pass, at, orElse, firstOf}
+use Rattle.mesh.specs.Search.{lower}
+use Rattle.mesh.specs.Checks.{sizesOk, lowestBadFace, lowestUnknownCode, NamesBadLink}
+use Rattle.mesh.specs.Chains.{lowestBroken}
+use Rattle.mesh.specs.Mesh.{Mesh, Conditions, meshSizes, meshSized, conditionsSized, topology, TopologyChecked, checks, Checked, Sized, Sound, Good}
+use Rattle.mesh.specs.declared.Answer.{Answer}
+use Rattle.mesh.specs.declared.Answer.the-variants.{Accepted}
+use Rattle.mesh.specs.declared.Found.{Found}
+use Rattle.mesh.specs.declared.Found.the-variants.{Nothing}
+use Rattle.mesh.specs.declared.chain.Form.the-variants.{First, Second}
+use Rattle.mesh.proofs.Truth.{and-true, every-at}
+use Rattle.mesh.proofs.Search.{none-lower}
+use Rattle.mesh.proofs.Facts.{both-accepted, passed, nothing-at, small, faces-in, chains-in, links-in}
+
+pub sized : (m : Mesh) → meshSized m ≡ true → Sized m
+sized m h =
+    let w = every-at (eqb (length (m .adjacency)) (m .counts .faces * 2)) (meshSizes m) h in
+    record {
+      adjacency = eqb-true _ _ (w .0);
+      geometry = eqb-true _ _ (w .1 0);
+      heads = eqb-true _ _ (w .1 1);
+      places = eqb-true _ _ (w .1 2);
+      facing = eqb-true _ _ (w .1 3);
+      bordering = eqb-true _ _ (w .1 4);
+    }
+
+-- an index below a count is one below the records of a slice of that size
+in-records : (n : ℕ) (l : List ℕ) (i : ℕ) → length l ≡ n * 2 → i < n → i < length l / 2
+in-records n l i e h = omega arith
+
+pub sound : (m : Mesh) (codes : List ℕ) (link : Found) → Sized m → length codes ≡ m .counts .faces * 2 → NamesBadLink (m .adjacency) codes link → topology m codes link ≡ Accepted → Sound m codes
+unfolding topology firstOf
+sound m codes link z k names h =
+    let four = both-accepted (at 4 (lower (lowestBadFace (m .counts .cells) (m .adjacency)) (lowestUnknownCode codes))) _ h in
+    let five = both-accepted (at 5 (lower (lowestBroken (m .counts .faces) (m .facing) First (m .heads)) (lowestBroken (m .counts .cells) (m .bordering) Second (m .heads)))) _ (four .1) in
+    let six = both-accepted (at 6 link) Accepted (five .1) in
+    let faces = none-lower (lowestBadFace (m .counts .cells) (m .adjacency)) (lowestUnknownCode codes) (nothing-at 4 _ (four .0)) in
+    let chains = none-lower (lowestBroken (m .counts .faces) (m .facing) First (m .heads)) (lowestBroken (m .counts .cells) (m .bordering) Second (m .heads)) (nothing-at 5 _ (five .0)) in
+    let none : NamesBadLink (m .adjacency) codes Nothing = subst (λ (f : Found). NamesBadLink (m .adjacency) codes f) (nothing-at 6 link (six .0)) names in
+    record {
+      faces = λ f l. faces-in (m .counts .cells) (m .adjacency) (faces .0) f (in-records (m .counts .faces) (m .adjacency) f (z .adjacency) l);
+      facings = λ c l. chains-in (m .counts .faces) (m .facing) First (m .heads) (chains .0) c (in-records (m .counts .cells) (m .heads) c (z .heads) l);
+      borderings = λ c l. chains-in (m .counts .cells) (m .bordering) Second (m .heads) (chains .1) c (in-records (m .counts .cells) (m .heads) c (z .heads) l);
+      links = λ f l. links-in (m .adjacency) codes none f (in-records (m .counts .faces) codes f k l);
+    }
+
+pub good : (m : Mesh) (k : Conditions) (r : Answer) → Checked m k r → r ≡ Accepted → Good m k
+unfolding checks firstOf
+good m k r c e =
+    let one = both-accepted (pass 1 (sizesOk (m .counts))) _ (sym (c .is) ∙ e) in
+    let two = both-accepted (pass 2 (meshSized m && conditionsSized (m .counts .faces) (k .codes) (k .values))) _ (one .1) in
+    let three = both-accepted (pass 3 (eqb (k .number) (m .counts .mesh))) _ (two .1) in
+    let rest = both-accepted (topology m (k .codes) (c .link)) Accepted (three .1) in
+    let lengths = and-true (meshSized m) (conditionsSized (m .counts .faces) (k .codes) (k .values)) (passed 2 _ (two .0)) in
+    let own = and-true (eqb (length (k .codes)) (m .counts .faces * 2)) (eqb (length (k .values)) (m .counts .faces * 4)) (lengths .1) in
+    let z = sized m (lengths .0) in
+    record {
+      small = small (m .counts) (passed 1 _ (one .0));
+      sized = z;
+      codes = eqb-true _ _ (own .0);
+      values = eqb-true _ _ (own .1);
+      same = eqb-true _ _ (passed 3 _ (three .0));
+      sound = sound m (k .codes) (c .link) z (eqb-true _ _ (own .0)) (c .names) (rest .0);
+    }

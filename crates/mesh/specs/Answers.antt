@@ -1,0 +1,35 @@
+-- What an answer is in document 01: a number, 0 where the call is accepted, and an index. Definitions only.
+use mathlib.Core.List.{List, [], _∷_}
+use mathlib.Core.Bool.{Bool, true, false}
+use Prim.Native.Nat.{ℕ}
+use Rattle.mesh.specs.declared.Answer.{Answer}
+use Rattle.mesh.specs.declared.Answer.the-variants.{Accepted, Refused}
+use Rattle.mesh.specs.declared.Found.{Found}
+use Rattle.mesh.specs.declared.Found.the-variants.{Nothing, At}
+
+abbrev pub numberOf : Answer → ℕ
+numberOf Accepted = 0
+numberOf (Refused k i) = k
+
+abbrev pub indexOf : Answer → ℕ
+indexOf Accepted = 0
+indexOf (Refused k i) = i
+
+-- a test that has to pass, or refusal k with index 0
+unfoldable pub pass : ℕ → Bool → Answer
+pass k true = Accepted
+pass k false = Refused k 0
+
+-- refusal k at the place that a search found
+unfoldable pub at : ℕ → Found → Answer
+at k Nothing = Accepted
+at k (At i) = Refused k i
+
+unfoldable pub orElse : Answer → Answer → Answer
+orElse Accepted b = b
+orElse (Refused k i) b = Refused k i
+
+-- the first refusal of the list, in its order
+unfoldable pub firstOf : List Answer → Answer
+firstOf [] = Accepted
+firstOf (a ∷ rest) = orElse a (firstOf rest)

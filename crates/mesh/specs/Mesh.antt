@@ -1,0 +1,108 @@
+-- A mesh and its conditions as they are lent, and the checks of them in the order of document 01. Definitions only.
+use mathlib.Core.Path.{_≡_}
+use mathlib.Core.List.{List, [], _∷_}
+use mathlib.Core.Bool.{Bool, _&&_}
+use Prim.Native.Nat.{ℕ, _*_, _<_}
+use lib.Dec.{eqb}
+use lib.ListN.{length}
+use lib.Ieee.{Float}
+use Rattle.mesh.specs.Answers.{pass, at, firstOf}
+use Rattle.mesh.specs.Search.{everyOf, lower}
+use Rattle.mesh.specs.Checks.{sizesOk, lowestBadFace, lowestUnknownCode, NamesBadLink}
+use Rattle.mesh.specs.Chains.{lowestBroken, Chain, headAt}
+use Rattle.mesh.specs.Facts.{Small, CellsOf, LinkOf}
+use Rattle.mesh.specs.Records.{firstAt, secondAt}
+use Rattle.mesh.specs.declared.Answer.{Answer}
+use Rattle.mesh.specs.declared.Counts.{Counts}
+use Rattle.mesh.specs.declared.Found.{Found}
+use Rattle.mesh.specs.declared.chain.Form.the-variants.{First, Second}
+
+pub record Mesh : Type 0 where
+  pub counts : Counts
+  pub adjacency : List ℕ
+  pub geometry : List Float
+  pub heads : List ℕ
+  pub places : List Float
+  pub facing : List ℕ
+  pub bordering : List ℕ
+
+abbrev pub mesh : Counts → List ℕ → List Float → List ℕ → List Float → List ℕ → List ℕ → Mesh
+mesh n a g h p f b = record { counts = n; adjacency = a; geometry = g; heads = h; places = p; facing = f; bordering = b }
+
+-- the conditions and links of the mesh of that number
+pub record Conditions : Type 0 where
+  pub number : ℕ
+  pub codes : List ℕ
+  pub values : List Float
+
+abbrev pub conditions : ℕ → List ℕ → List Float → Conditions
+conditions n c v = record { number = n; codes = c; values = v }
+
+-- 2: each slice is as long as its records
+abbrev pub meshSizes : Mesh → List Bool
+meshSizes m =
+    eqb (length (m .geometry)) (m .counts .faces * 9)
+    ∷ eqb (length (m .heads)) (m .counts .cells * 2)
+    ∷ eqb (length (m .places)) (m .counts .cells * 4)
+    ∷ eqb (length (m .facing)) (m .counts .facings * 2)
+    ∷ eqb (length (m .bordering)) (m .counts .borderings * 2)
+    ∷ []
+
+abbrev pub meshSized : Mesh → Bool
+meshSized m = everyOf (eqb (length (m .adjacency)) (m .counts .faces * 2)) (meshSizes m)
+
+abbrev pub conditionsSized : ℕ → List ℕ → List Float → Bool
+conditionsSized faces codes values = eqb (length codes) (faces * 2) && eqb (length values) (faces * 4)
+
+-- 4, 5 and 6: the lowest bad face, the lowest cell with a broken chain, and a badly linked face, whichever `link` names
+unfoldable pub topology : Mesh → List ℕ → Found → Answer
+topology m codes link =
+    firstOf
+    (at 4 (lower (lowestBadFace (m .counts .cells) (m .adjacency)) (lowestUnknownCode codes))
+    ∷ at 5 (lower (lowestBroken (m .counts .faces) (m .facing) First (m .heads)) (lowestBroken (m .counts .cells) (m .bordering) Second (m .heads)))
+    ∷ at 6 link
+    ∷ [])
+
+pub record TopologyChecked (m : Mesh) (codes : List ℕ) (r : Answer) : Type 0 where
+  pub link : Found
+  pub names : NamesBadLink (m .adjacency) codes link
+  pub is : r ≡ topology m codes link
+
+-- 1 to 6
+unfoldable pub checks : Mesh → Conditions → Found → Answer
+checks m k link =
+    firstOf
+    (pass 1 (sizesOk (m .counts))
+    ∷ pass 2 (meshSized m && conditionsSized (m .counts .faces) (k .codes) (k .values))
+    ∷ pass 3 (eqb (k .number) (m .counts .mesh))
+    ∷ topology m (k .codes) link
+    ∷ [])
+
+pub record Checked (m : Mesh) (k : Conditions) (r : Answer) : Type 0 where
+  pub link : Found
+  pub names : NamesBadLink (m .adjacency) (k .codes) link
+  pub is : r ≡ checks m k link
+
+-- ---- what the checks establish
+
+pub record Sized (m : Mesh) : Type 0 where
+  pub adjacency : length (m .adjacency) ≡ m .counts .faces * 2
+  pub geometry : length (m .geometry) ≡ m .counts .faces * 9
+  pub heads : length (m .heads) ≡ m .counts .cells * 2
+  pub places : length (m .places) ≡ m .counts .cells * 4
+  pub facing : length (m .facing) ≡ m .counts .facings * 2
+  pub bordering : length (m .bordering) ≡ m .counts .borderings * 2
+
+pub record Sound (m : Mesh) (codes : List ℕ) : Type 0 where
+  pub faces : (f : ℕ) → f < m .counts .faces → CellsOf (m .counts .cells) (m .adjacency) f
+  pub facings : (c : ℕ) → c < m .counts .cells → Chain (m .counts .faces) (m .facing) (firstAt (m .heads) c)
+  pub borderings : (c : ℕ) → c < m .counts .cells → Chain (m .counts .cells) (m .bordering) (secondAt (m .heads) c)
+  pub links : (f : ℕ) → f < m .counts .faces → (secondAt codes f ≡ 0 → ⊥) → LinkOf (m .adjacency) codes f
+
+pub record Good (m : Mesh) (k : Conditions) : Type 0 where
+  pub small : Small (m .counts)
+  pub sized : Sized m
+  pub codes : length (k .codes) ≡ m .counts .faces * 2
+  pub values : length (k .values) ≡ m .counts .faces * 4
+  pub same : k .number ≡ m .counts .mesh
+  pub sound : Sound m (k .codes)

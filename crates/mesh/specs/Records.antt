@@ -1,0 +1,50 @@
+-- Records in flat lists. A missing whole number counts as 0, and a missing float as a NaN. Definitions only.
+use mathlib.Core.List.{List}
+use mathlib.Core.Bool.{cond}
+use Prim.Native.Nat.{ℕ, _+_, _*_}
+use lib.Dec.{eqb}
+use lib.ListN.{getD}
+use lib.Ieee.{Float, nan}
+use Rattle.mesh.specs.Vector.{vec}
+use Rattle.mesh.specs.declared.Vec3.{Vec3}
+use Rattle.mesh.specs.declared.Face.{Face}
+use Rattle.mesh.specs.declared.Cell.{Cell}
+use Rattle.mesh.specs.declared.Link.{Link}
+use Rattle.mesh.specs.declared.Condition.{Condition}
+use Rattle.mesh.specs.declared.Condition.the-variants.{Absent, Fixed, ZeroGradient}
+
+-- the two numbers of record i of two: of a face its owner and its neighbour + 1, or its condition's code and its peer + 1; of a chain's record its item and the next record
+abbrev pub firstAt : List ℕ → ℕ → ℕ
+firstAt s i = getD s (i * 2) 0
+
+abbrev pub secondAt : List ℕ → ℕ → ℕ
+secondAt s i = getD s (i * 2 + 1) 0
+
+-- the three numbers from the place b on
+abbrev pub vectorAt : List Float → ℕ → Vec3
+vectorAt s b = vec (getD s b nan) (getD s (b + 1) nan) (getD s (b + 2) nan)
+
+-- a face's nine floats: centre, area vector, normal
+abbrev pub faceAt : List ℕ → List Float → ℕ → Face
+faceAt adjacency geometry f = record {
+  owner = firstAt adjacency f;
+  neighbour = secondAt adjacency f;
+  center = vectorAt geometry (f * 9);
+  area = vectorAt geometry (f * 9 + 3);
+  normal = vectorAt geometry (f * 9 + 6);
+}
+
+-- a cell's four floats: centre, volume
+abbrev pub cellAt : List Float → ℕ → Cell
+cellAt places c = record { center = vectorAt places (c * 4); volume = getD places (c * 4 + 3) nan }
+
+-- the condition that a code and its value stand for; an unknown code is refused before it is read
+abbrev pub conditionOf : ℕ → Float → Condition
+conditionOf code value = cond (eqb code 1) (Fixed value) (cond (eqb code 2) ZeroGradient Absent)
+
+-- a face's four floats of the conditions: fixed value, translation
+abbrev pub conditionAt : List ℕ → List Float → ℕ → Condition
+conditionAt codes values f = conditionOf (firstAt codes f) (getD values (f * 4) nan)
+
+abbrev pub linkAt : List ℕ → List Float → ℕ → Link
+linkAt codes values f = record { peer = secondAt codes f; translation = vectorAt values (f * 4 + 1) }

@@ -1,0 +1,35 @@
+-- Records of three floats, in the Rust's order of operations. Definitions only.
+use lib.Ieee.{Float, neg}
+use Rattle.binary64.specs.Numbers.{zero64, _⊕_, _⊖_, _⊗_, _⊘_}
+use Rattle.binary64.specs.Root.{root}
+use Rattle.mesh.specs.declared.Vec3.{Vec3}
+
+abbrev pub vec : Float → Float → Float → Vec3
+vec x y z = record { x = x; y = y; z = z }
+
+abbrev pub zero3 : Vec3
+zero3 = vec zero64 zero64 zero64
+
+unfoldable pub dot : Vec3 → Vec3 → Float
+dot a b = a .x ⊗ b .x ⊕ a .y ⊗ b .y ⊕ a .z ⊗ b .z
+
+abbrev pub normSquared : Vec3 → Float
+normSquared a = dot a a
+
+abbrev pub norm : Vec3 → Float
+norm a = root (dot a a)
+
+unfoldable pub sum : Vec3 → Vec3 → Vec3
+sum a b = vec (a .x ⊕ b .x) (a .y ⊕ b .y) (a .z ⊕ b .z)
+
+unfoldable pub difference : Vec3 → Vec3 → Vec3
+difference a b = vec (a .x ⊖ b .x) (a .y ⊖ b .y) (a .z ⊖ b .z)
+
+unfoldable pub negation : Vec3 → Vec3
+negation a = vec (neg (a .x)) (neg (a .y)) (neg (a .z))
+
+unfoldable pub scaled : Vec3 → Float → Vec3
+scaled a s = vec (a .x ⊗ s) (a .y ⊗ s) (a .z ⊗ s)
+
+unfoldable pub quotient : Vec3 → Float → Vec3
+quotient a s = vec (a .x ⊘ s) (a .y ⊘ s) (a .z ⊘ s)

@@ -1,0 +1,340 @@
+// What is lent: vectors, the records of a mesh and of its conditions, the checks 1 to 6 of what is
+// lent, and the clearing of outputs. Records stand in flat slices; `inner` reads them by value.
+ghost use mathlib.Core.Path.{_≡_};
+ghost use Prim.Native.Nat.{_*_};
+ghost use lib.Dec.{eqb};
+ghost use lib.ListN.{length, getD, replicate};
+ghost use Rattle.binary64.specs.Numbers.{zero64};
+ghost use Rattle.mesh.specs.Records.{firstAt, secondAt, conditionOf};
+ghost use Rattle.mesh.specs.Checks.{sizesOk, lowestBadFace, lowestUnknownCode, NamesBadLink};
+ghost use Rattle.mesh.specs.Chains.{lowestBroken};
+ghost use Rattle.mesh.specs.Search.{lower};
+ghost use Rattle.mesh.specs.Mesh.{mesh, conditions, meshSized, conditionsSized, TopologyChecked, Checked};
+ghost use Rattle.mesh.specs.declared.chain.Form.the-variants.{Single, First, Second};
+use chain::Form;
+
+mod chain;
+pub mod inner;
+mod test;
+mod vector;
+
+// A record of three floats.
+pub struct Vec3 {
+    pub x: f64,
+    pub y: f64,
+    pub z: f64,
+}
+
+// A mesh's number, its dimension, and how many cells, faces, face records and neighbour records it
+// has.
+pub struct Counts {
+    pub mesh: u64,
+    pub dimension: usize,
+    pub cells: usize,
+    pub faces: usize,
+    pub facings: usize,
+    pub borderings: usize,
+}
+
+// A face. The neighbour is a cell + 1, or 0 where there is none; `area` is the area vector.
+pub struct Face {
+    pub owner: usize,
+    pub neighbour: usize,
+    pub center: Vec3,
+    pub area: Vec3,
+    pub normal: Vec3,
+}
+
+pub struct Cell {
+    pub center: Vec3,
+    pub volume: f64,
+}
+
+// What holds at a one-cell face.
+pub enum Condition {
+    Absent,
+    Fixed(f64),
+    ZeroGradient,
+}
+
+// A face's link: the peer is a face + 1, or 0 where there is no link.
+pub struct Link {
+    pub peer: usize,
+    pub translation: Vec3,
+}
+
+// An entry's answer: a refusal has document 01's number and index.
+pub enum Answer {
+    Accepted,
+    Refused(u64, usize),
+}
+
+// What a search finds.
+pub enum Found {
+    Nothing,
+    At(usize),
+}
+
+// What a face or a cell is given: a number, or the number of a refusal.
+pub enum Outcome {
+    Value(f64),
+    Bad(u64),
+}
+
+// The condition that a code and its value stand for.
+pub fn condition_of(code: usize, value: f64) -> Condition
+    ensures { λ r. ⌜ r ≡ conditionOf code value ⌝ }
+{
+    match code {
+        1 => Condition::Fixed(value),
+        2 => Condition::ZeroGradient,
+        _ => Condition::Absent,
+    }
+}
+
+// The number at i, 0 where it is missing.
+pub fn number_at(s: &[usize], i: usize) -> usize
+    ensures { λ r. ⌜ r ≡ getD (now (s .entry)) i 0 ⌝ }
+{
+    if i < s.len() { s[i] } else { 0 }
+}
+
+// The two numbers of record i of two, each 0 where it is missing.
+pub fn first_at(s: &[usize], i: usize) -> usize
+    ensures { λ r. ⌜ r ≡ firstAt (now (s .entry)) i ⌝ }
+{
+    if i < (s.len() + 1) / 2 { s[i * 2] } else { 0 }
+}
+
+pub fn second_at(s: &[usize], i: usize) -> usize
+    ensures { λ r. ⌜ r ≡ secondAt (now (s .entry)) i ⌝ }
+{
+    if i < s.len() / 2 { s[i * 2 + 1] } else { 0 }
+}
+
+// Check 1: the counts are those of a mesh.
+pub fn sizes_ok(counts: Counts) -> bool
+    ensures { λ r. ⌜ r ≡ sizesOk counts ⌝ }
+{
+    (0 < counts.cells)
+        & (counts.cells <= 65535)
+        & (counts.faces <= 65535)
+        & (counts.facings <= 65535)
+        & (counts.borderings <= 65535)
+        & ((counts.dimension == 2) | (counts.dimension == 3))
+}
+
+// Check 2: a slice's length is that of `count` records of `width` numbers.
+pub fn is_sized(len: usize, width: usize, count: usize) -> bool
+    ensures { λ r. ⌜ r ≡ eqb len (count * width) ⌝ }
+{
+    if width == 0 {
+        return len == 0;
+    }
+    (len / width == count) & (len % width == 0)
+}
+
+// Check 2, of the slices of a mesh.
+pub fn mesh_sized(
+    counts: Counts,
+    adjacency: &[usize],
+    geometry: &[f64],
+    heads: &[usize],
+    places: &[f64],
+    facing: &[usize],
+    bordering: &[usize],
+) -> bool
+    ensures { λ r. ⌜ r ≡ meshSized (mesh counts (now (adjacency .entry)) (now (geometry .entry)) (now (heads .entry)) (now (places .entry)) (now (facing .entry)) (now (bordering .entry))) ⌝ }
+{
+    is_sized(adjacency.len(), 2, counts.faces)
+        & is_sized(geometry.len(), 9, counts.faces)
+        & is_sized(heads.len(), 2, counts.cells)
+        & is_sized(places.len(), 4, counts.cells)
+        & is_sized(facing.len(), 2, counts.facings)
+        & is_sized(bordering.len(), 2, counts.borderings)
+}
+
+// Check 2, of the slices of conditions and links.
+pub fn conditions_sized(faces: usize, codes: &[usize], values: &[f64]) -> bool
+    ensures { λ r. ⌜ r ≡ conditionsSized faces (now (codes .entry)) (now (values .entry)) ⌝ }
+{
+    is_sized(codes.len(), 2, faces) & is_sized(values.len(), 4, faces)
+}
+
+// The lower of two places.
+pub fn lower_of(a: Found, b: Found) -> Found
+    ensures { λ r. ⌜ r ≡ lower a b ⌝ }
+{
+    match a {
+        Found::Nothing => b,
+        Found::At(i) => match b {
+            Found::Nothing => a,
+            Found::At(j) => { if j < i { b } else { a } }
+        },
+    }
+}
+
+// Check 4, of the cells that a face names: the lowest face that meets it.
+pub fn lowest_bad_face(cells: usize, adjacency: &[usize]) -> Found
+    ensures { λ r. ⌜ r ≡ lowestBadFace cells (now (adjacency .entry)) ⌝ }
+{
+    let mut f = 0;
+    while f < adjacency.len() / 2 {
+        if test::is_bad(cells, adjacency, f) {
+            return Found::At(f);
+        }
+        f += 1;
+    }
+    Found::Nothing
+}
+
+// Check 4, of a face's condition code.
+pub fn lowest_unknown_code(codes: &[usize]) -> Found
+    ensures { λ r. ⌜ r ≡ lowestUnknownCode (now (codes .entry)) ⌝ }
+{
+    let mut f = 0;
+    while f < codes.len() / 2 {
+        if 2 < codes[f * 2] {
+            return Found::At(f);
+        }
+        f += 1;
+    }
+    Found::Nothing
+}
+
+// Check 5, of the chains of faces: the lowest cell whose chain is broken.
+pub fn lowest_broken_facing(faces: usize, heads: &[usize], facing: &[usize]) -> Found
+    ensures { λ r. ⌜ r ≡ lowestBroken faces (now (facing .entry)) First (now (heads .entry)) ⌝ }
+{
+    chain::lowest_broken(faces, facing, Form::First, heads)
+}
+
+// Check 5, of the chains of neighbours.
+pub fn lowest_broken_bordering(cells: usize, heads: &[usize], bordering: &[usize]) -> Found
+    ensures { λ r. ⌜ r ≡ lowestBroken cells (now (bordering .entry)) Second (now (heads .entry)) ⌝ }
+{
+    chain::lowest_broken(cells, bordering, Form::Second, heads)
+}
+
+// Check 5, of the chains of a stencil's equations, whose sources are below the number of cells + 2.
+pub fn lowest_broken_equation(sources: usize, starts: &[usize], equations: &[usize]) -> Found
+    ensures { λ r. ⌜ r ≡ lowestBroken sources (now (equations .entry)) Single (now (starts .entry)) ⌝ }
+{
+    chain::lowest_broken(sources, equations, Form::Single, starts)
+}
+
+// Check 6: a face with a link that meets it.
+pub fn bad_link(adjacency: &[usize], codes: &[usize]) -> Found
+    ensures { λ r. ⌜ NamesBadLink (now (adjacency .entry)) (now (codes .entry)) r ⌝ }
+{
+    let mut f = 0;
+    while f < codes.len() / 2 {
+        if test::is_badly_linked(adjacency, codes, f) {
+            return Found::At(f);
+        }
+        f += 1;
+    }
+    Found::Nothing
+}
+
+// Every number +0.0.
+pub fn clear(out: &mut [f64])
+    ensures { λ _. ⌜ now (out .exit) ≡ replicate (length (now (out .entry))) zero64 ⌝ }
+{
+    let mut i = 0;
+    while i < out.len() {
+        out[i] = 0.0;
+        i += 1;
+    }
+}
+
+// Every number 0.
+pub fn clear_numbers(out: &mut [usize])
+    ensures { λ _. ⌜ now (out .exit) ≡ replicate (length (now (out .entry))) 0 ⌝ }
+{
+    let mut i = 0;
+    while i < out.len() {
+        out[i] = 0;
+        i += 1;
+    }
+}
+
+// The checks 4, 5 and 6 of a mesh with its conditions and links.
+pub fn check_topology(
+    counts: Counts,
+    adjacency: &[usize],
+    geometry: &[f64],
+    heads: &[usize],
+    places: &[f64],
+    facing: &[usize],
+    bordering: &[usize],
+    codes: &[usize],
+) -> Answer
+    ensures { λ r. ⌜ TopologyChecked (mesh counts (now (adjacency .entry)) (now (geometry .entry)) (now (heads .entry)) (now (places .entry)) (now (facing .entry)) (now (bordering .entry))) (now (codes .entry)) r ⌝ }
+{
+    let face = lower_of(
+        lowest_bad_face(counts.cells, adjacency),
+        lowest_unknown_code(codes),
+    );
+    if let Found::At(f) = face {
+        return Answer::Refused(4, f);
+    }
+    let cell = lower_of(
+        lowest_broken_facing(counts.faces, heads, facing),
+        lowest_broken_bordering(counts.cells, heads, bordering),
+    );
+    if let Found::At(c) = cell {
+        return Answer::Refused(5, c);
+    }
+    let link = bad_link(adjacency, codes);
+    if let Found::At(f) = link {
+        return Answer::Refused(6, f);
+    }
+    Answer::Accepted
+}
+
+// Every check of a mesh with its conditions and links, in the order of document 01. `number` is the
+// mesh number of the conditions.
+pub fn check(
+    counts: Counts,
+    adjacency: &[usize],
+    geometry: &[f64],
+    heads: &[usize],
+    places: &[f64],
+    facing: &[usize],
+    bordering: &[usize],
+    number: u64,
+    codes: &[usize],
+    values: &[f64],
+) -> Answer
+    ensures { λ r. ⌜ Checked (mesh counts (now (adjacency .entry)) (now (geometry .entry)) (now (heads .entry)) (now (places .entry)) (now (facing .entry)) (now (bordering .entry))) (conditions number (now (codes .entry)) (now (values .entry))) r ⌝ }
+{
+    if !sizes_ok(counts) {
+        return Answer::Refused(1, 0);
+    }
+    if !(mesh_sized(
+        counts,
+        adjacency,
+        geometry,
+        heads,
+        places,
+        facing,
+        bordering,
+    )
+        & conditions_sized(counts.faces, codes, values)) {
+        return Answer::Refused(2, 0);
+    }
+    if number != counts.mesh {
+        return Answer::Refused(3, 0);
+    }
+    check_topology(
+        counts,
+        adjacency,
+        geometry,
+        heads,
+        places,
+        facing,
+        bordering,
+        codes,
+    )
+}

@@ -1,0 +1,74 @@
+// Vectors, in the Rust's order of float operations.
+ghost use mathlib.Core.Path.{_≡_};
+ghost use Rattle.mesh.specs.Vector.{dot, norm, normSquared, sum, difference, negation, scaled, quotient};
+use crate::Vec3;
+
+impl Vec3 {
+    pub fn dot(self, other: Vec3) -> f64
+        ensures { λ r. ⌜ r ≡ dot self other ⌝ }
+    {
+        self.x * other.x + self.y * other.y + self.z * other.z
+    }
+
+    pub fn norm_squared(self) -> f64
+        ensures { λ r. ⌜ r ≡ normSquared self ⌝ }
+    {
+        self.dot(self)
+    }
+
+    pub fn norm(self) -> f64
+        ensures { λ r. ⌜ r ≡ norm self ⌝ }
+    {
+        binary64::sqrt(self.dot(self))
+    }
+
+    pub fn add(self, other: Vec3) -> Vec3
+        ensures { λ r. ⌜ r ≡ sum self other ⌝ }
+    {
+        Vec3 {
+            x: self.x + other.x,
+            y: self.y + other.y,
+            z: self.z + other.z,
+        }
+    }
+
+    pub fn sub(self, other: Vec3) -> Vec3
+        ensures { λ r. ⌜ r ≡ difference self other ⌝ }
+    {
+        Vec3 {
+            x: self.x - other.x,
+            y: self.y - other.y,
+            z: self.z - other.z,
+        }
+    }
+
+    pub fn neg(self) -> Vec3
+        ensures { λ r. ⌜ r ≡ negation self ⌝ }
+    {
+        Vec3 {
+            x: -self.x,
+            y: -self.y,
+            z: -self.z,
+        }
+    }
+
+    pub fn scale(self, factor: f64) -> Vec3
+        ensures { λ r. ⌜ r ≡ scaled self factor ⌝ }
+    {
+        Vec3 {
+            x: self.x * factor,
+            y: self.y * factor,
+            z: self.z * factor,
+        }
+    }
+
+    pub fn div(self, divisor: f64) -> Vec3
+        ensures { λ r. ⌜ r ≡ quotient self divisor ⌝ }
+    {
+        Vec3 {
+            x: self.x / divisor,
+            y: self.y / divisor,
+            z: self.z / divisor,
+        }
+    }
+}

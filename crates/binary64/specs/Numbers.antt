@@ -8,6 +8,13 @@ use lib.Ieee.Scale.{finite}
 abbrev pub zero64 : Float
 zero64 = Ieee.ofBits binary64 0
 
+-- 1.0, and EPS, which is 2 ^ -52
+abbrev pub one64 : Float
+one64 = Ieee.ofBits binary64 0x3ff0000000000000
+
+abbrev pub eps : Float
+eps = Ieee.ofBits binary64 0x3cb0000000000000
+
 -- neither a NaN nor an infinity
 abbrev pub isFinite : Float → Bool
 isFinite = finite
@@ -15,6 +22,10 @@ isFinite = finite
 -- finite, and not at most 0: what a coefficient, a response or a volume has to be
 abbrev pub isUsable : Float → Bool
 isUsable x = isFinite x && not (Ieee.le x zero64)
+
+-- finite, and not at most EPS: what a distance or its square has to be
+abbrev pub isFar : Float → Bool
+isFar x = isFinite x && not (Ieee.le x eps)
 
 -- the sign cleared
 unfoldable pub magnitude : Float → Float

@@ -1,11 +1,14 @@
 // Numbers of IEEE 754 binary64: tests, magnitudes, the larger of two, and the correctly rounded
 // square root. The exact account of what a sum loses is in specs/ and proofs/.
 ghost use mathlib.Core.Path.{_≡_};
-ghost use Rattle.binary64.specs.Numbers.{isFinite, isUsable, magnitude, larger};
+ghost use Rattle.binary64.specs.Numbers.{isFinite, isUsable, isFar, magnitude, larger};
 ghost use Rattle.binary64.specs.Root.{root};
 
 mod line;
 mod root;
+
+// 2^-52.
+pub const EPSILON: f64 = 2.220446049250313e-16;
 
 pub fn finite(x: f64) -> bool
     ensures { λ r. ⌜ r ≡ isFinite x ⌝ }
@@ -19,6 +22,13 @@ pub fn usable(x: f64) -> bool
     ensures { λ r. ⌜ r ≡ isUsable x ⌝ }
 {
     if finite(x) { !(x <= 0.0) } else { false }
+}
+
+// Finite and not at most EPSILON.
+pub fn far(x: f64) -> bool
+    ensures { λ r. ⌜ r ≡ isFar x ⌝ }
+{
+    if finite(x) { !(x <= EPSILON) } else { false }
 }
 
 // The sign cleared.

@@ -11,7 +11,7 @@ use Rattle.mesh.specs.Answers.{orElse, firstOf, pass, at}
 use Rattle.mesh.specs.Records.{firstAt, secondAt}
 use Rattle.mesh.specs.Search.{someOf, lowestWhere, Names}
 use Rattle.mesh.specs.Checks.{sizeTests, sizesOk, badFace, lowestBadFace, unknownCode, lowestUnknownCode, badLink, NamesBadLink}
-use Rattle.mesh.specs.Chains.{stepOf, ends, headAt, cellCount, brokenCell, lowestBroken, Chain}
+use Rattle.mesh.specs.Chains.{ends, headAt, cellCount, brokenCell, lowestBroken}
 use Rattle.mesh.specs.Facts.{Small, CellsOf, FacesIn, CodesIn, ChainsIn, LinkOf, LinksIn}
 use Rattle.mesh.specs.declared.Counts.{Counts}
 use Rattle.mesh.specs.declared.Answer.{Answer}
@@ -58,7 +58,7 @@ pub chains-in : (limit : ℕ) (records : List ℕ) (form : Form) (heads : List �
 unfolding brokenCell
 chains-in limit records form heads h c l =
     let e = none-below (brokenCell limit records form heads) (cellCount form heads) c h l in
-    record { left = length records / 2; within = omega arith; sound = not-false (ends (stepOf limit records) (length records / 2) (headAt form heads c)) e }
+    record { left = length records / 2; within = omega arith; sound = not-false (ends records (length records / 2) limit (length records / 2) (headAt form heads c)) e }
 
 -- the tests of a link, by the peer's
 link-tests : (peer faces : ℕ) (z m r : Bool) → z ≡ eqb peer 0 → m ≡ ltb faces peer → (peer ≡ 0 → ⊥) → cond z false (cond m true r) ≡ false → (peer ≤ faces) × (r ≡ false)

@@ -10,7 +10,8 @@ use borrow.Author.Tests.{eqb-true}
 use Rattle.mesh.specs.Answers.{pass, at, orElse, firstOf}
 use Rattle.mesh.specs.Search.{lower}
 use Rattle.mesh.specs.Checks.{sizesOk, lowestBadFace, lowestUnknownCode, NamesBadLink}
-use Rattle.mesh.specs.Chains.{lowestBroken}
+use Rattle.mesh.specs.Chains.{lowestBroken, Chain}
+use Rattle.mesh.specs.Records.{firstAt, secondAt}
 use Rattle.mesh.specs.Mesh.{Mesh, Conditions, meshSizes, meshSized, conditionsSized, topology, TopologyChecked, checks, Checked, Sized, Sound, Good}
 use Rattle.mesh.specs.declared.Answer.{Answer}
 use Rattle.mesh.specs.declared.Answer.the-variants.{Accepted}
@@ -23,7 +24,7 @@ use Rattle.mesh.proofs.Facts.{both-accepted, passed, nothing-at, small,
 
 pub sized : (m : Mesh) → meshSized m ≡ true → Sized m
 sized m h =
-    let w = every-at (eqb (length (m .adjacency)) (m .counts .faces * 2)) (meshSizes m) h in
+    let w = every-at (eqb (length (m .adjacency)) (2 * (m .counts .faces))) (meshSizes m) h in
     record {
       adjacency = eqb-true _ _ (w .0);
       geometry = eqb-true _ _ (w .1 0);
@@ -34,10 +35,14 @@ sized m h =
     }
 
 -- an index below a count is one below the records of a slice of that size
-in-records : (n : ℕ) (l : List ℕ) (i : ℕ) → length l ≡ n * 2 → i < n → i < length l / 2
+in-records : (n : ℕ) (l : List ℕ) (i : ℕ) → length l ≡ 2 * n → i < n → i < length l / 2
 in-records n l i e h = omega arith
 
-pub sound : (m : Mesh) (codes : List ℕ) (link : Found) → Sized m → length codes ≡ m .counts .faces * 2 → NamesBadLink (m .adjacency) codes link → topology m codes link ≡ Accepted → Sound m codes
+-- the records of a slice of that size are the count
+counted : (l : List ℕ) (n limit r : ℕ) → length l ≡ 2 * n → Chain l (length l / 2) limit r → Chain l n limit r
+counted l n limit r e c = let h : length l / 2 ≡ n = omega arith in subst (λ (k : ℕ). Chain l k limit r) h c
+
+pub sound : (m : Mesh) (codes : List ℕ) (link : Found) → Sized m → length codes ≡ 2 * (m .counts .faces) → NamesBadLink (m .adjacency) codes link → topology m codes link ≡ Accepted → Sound m codes
 unfolding topology firstOf
 sound m codes link z k names h =
     let four = both-accepted (at 4 (lower (lowestBadFace (m .counts .cells) (m .adjacency)) (lowestUnknownCode codes))) _ h in
@@ -48,8 +53,8 @@ sound m codes link z k names h =
     let none : NamesBadLink (m .adjacency) codes Nothing = subst (λ (f : Found). NamesBadLink (m .adjacency) codes f) (nothing-at 6 link (six .0)) names in
     record {
       faces = λ f l. faces-in (m .counts .cells) (m .adjacency) (faces .0) f (in-records (m .counts .faces) (m .adjacency) f (z .adjacency) l);
-      facings = λ c l. chains-in (m .counts .faces) (m .facing) First (m .heads) (chains .0) c (in-records (m .counts .cells) (m .heads) c (z .heads) l);
-      borderings = λ c l. chains-in (m .counts .cells) (m .bordering) Second (m .heads) (chains .1) c (in-records (m .counts .cells) (m .heads) c (z .heads) l);
+      facings = λ c l. counted (m .facing) (m .counts .facings) (m .counts .faces) (firstAt (m .heads) c) (z .facing) (chains-in (m .counts .faces) (m .facing) First (m .heads) (chains .0) c (in-records (m .counts .cells) (m .heads) c (z .heads) l));
+      borderings = λ c l. counted (m .bordering) (m .counts .borderings) (m .counts .cells) (secondAt (m .heads) c) (z .bordering) (chains-in (m .counts .cells) (m .bordering) Second (m .heads) (chains .1) c (in-records (m .counts .cells) (m .heads) c (z .heads) l));
       links = λ f l. links-in (m .adjacency) codes none f (in-records (m .counts .faces) codes f k l);
     }
 
@@ -61,7 +66,7 @@ good m k r c e =
     let three = both-accepted (pass 3 (eqb (k .number) (m .counts .mesh))) _ (two .1) in
     let rest = both-accepted (topology m (k .codes) (c .link)) Accepted (three .1) in
     let lengths = and-true (meshSized m) (conditionsSized (m .counts .faces) (k .codes) (k .values)) (passed 2 _ (two .0)) in
-    let own = and-true (eqb (length (k .codes)) (m .counts .faces * 2)) (eqb (length (k .values)) (m .counts .faces * 4)) (lengths .1) in
+    let own = and-true (eqb (length (k .codes)) (2 * (m .counts .faces))) (eqb (length (k .values)) (4 * (m .counts .faces))) (lengths .1) in
     let z = sized m (lengths .0) in
     record {
       small = small (m .counts) (passed 1 _ (one .0));

@@ -4,5 +4,6 @@ pub mod Search
 pub mod Chains
 pub mod Filling
 pub mod Pass
+pub mod Vectors
 pub mod Facts
 pub mod Good

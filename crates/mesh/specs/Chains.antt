@@ -14,23 +14,19 @@ use Rattle.mesh.specs.declared.chain.Step.{Step}
 use Rattle.mesh.specs.declared.chain.Step.the-variants.{Broken, Next}
 
 abbrev pub itemOf : List ℕ → ℕ → ℕ
-itemOf records r = firstAt records (r - 1)
+itemOf l r = firstAt l (r - 1)
 
 abbrev pub nextOf : List ℕ → ℕ → ℕ
-nextOf records r = secondAt records (r - 1)
+nextOf l r = secondAt l (r - 1)
 
--- the step at a record r above 0: broken where the record is missing or its item is not below the limit
-unfoldable pub stepOf : ℕ → List ℕ → ℕ → Step
-stepOf limit records r = cond (leb r (length records / 2) && ltb (itemOf records r) limit) (Next (nextOf records r)) Broken
+-- the step at a record r above 0 of `records` records: broken where the record is missing or its item is not below the limit
+unfoldable pub stepOf : List ℕ → ℕ → ℕ → ℕ → Step
+stepOf l records limit r = cond (leb r records && ltb (itemOf l r) limit) (Next (nextOf l r)) Broken
 
-unfoldable pub follow : Step → (ℕ → Bool) → Bool
-follow Broken h = false
-follow (Next r) h = h r
-
--- whether the chain from the record r on ends within `left` records, none of them broken
-unfoldable pub ends : (ℕ → Step) → ℕ → ℕ → Bool
-ends s zero r = eqb r 0
-ends s (suc left) r = cond (eqb r 0) true (follow (s r) (ends s left))
+-- whether the chain from the record r on ends within `left` records, each of them among the `records` there are, with an item below the limit
+unfoldable pub ends : List ℕ → ℕ → ℕ → ℕ → ℕ → Bool
+ends l records limit zero r = eqb r 0
+ends l records limit (suc left) r = cond (eqb r 0) true (leb r records && (ltb (itemOf l r) limit && ends l records limit left (nextOf l r)))
 
 -- the first record of a cell's chain, 0 where the cell is missing, and how many cells there are
 abbrev pub headAt : Form → List ℕ → ℕ → ℕ
@@ -45,23 +41,25 @@ cellCount Second heads = length heads / 2
 
 -- 5: a cell's chain is broken, or has no end within the number of records
 unfoldable pub brokenCell : ℕ → List ℕ → Form → List ℕ → ℕ → Bool
-brokenCell limit records form heads cell = not (ends (stepOf limit records) (length records / 2) (headAt form heads cell))
+brokenCell limit l form heads cell = not (ends l (length l / 2) limit (length l / 2) (headAt form heads cell))
 
 abbrev pub lowestBroken : ℕ → List ℕ → Form → List ℕ → Found
-lowestBroken limit records form heads = lowestWhere (brokenCell limit records form heads) (cellCount form heads)
+lowestBroken limit l form heads = lowestWhere (brokenCell limit l form heads) (cellCount form heads)
 
 -- ---- the chain as a list
 
 -- the items of the chain from the record r on, n of them at most
 unfoldable pub walk : List ℕ → ℕ → ℕ → List ℕ
-walk records zero r = []
-walk records (suc n) r = cond (eqb r 0) [] (itemOf records r ∷ walk records n (nextOf records r))
+walk l zero r = []
+walk l (suc n) r = cond (eqb r 0) [] (itemOf l r ∷ walk l n (nextOf l r))
 
-abbrev pub chainOf : List ℕ → ℕ → List ℕ
-chainOf records r = walk records (length records / 2) r
+-- the records themselves
+unfoldable pub trail : List ℕ → ℕ → ℕ → List ℕ
+trail l zero r = []
+trail l (suc n) r = cond (eqb r 0) [] (r ∷ trail l n (nextOf l r))
 
--- the record r stands in a sound chain
-pub record Chain (limit : ℕ) (records : List ℕ) (r : ℕ) : Type 0 where
+-- the record r stands in a sound chain, of `records` records with items below the limit
+pub record Chain (l : List ℕ) (records limit r : ℕ) : Type 0 where
   pub left : ℕ
-  pub within : left ≤ length records / 2
-  pub sound : ends (stepOf limit records) left r ≡ true
+  pub within : left ≤ records
+  pub sound : ends l records limit left r ≡ true

@@ -30,7 +30,7 @@ CodesIn codes = (f : ℕ) → f < length codes / 2 → firstAt codes f ≤ 2
 
 -- by check 5: the chain of every cell
 abbrev pub ChainsIn : ℕ → List ℕ → Form → List ℕ → Type 0
-ChainsIn limit records form heads = (c : ℕ) → c < cellCount form heads → Chain limit records (headAt form heads c)
+ChainsIn limit records form heads = (c : ℕ) → c < cellCount form heads → Chain records (length records / 2) limit (headAt form heads c)
 
 -- by check 6: the link of the face f, where it has one
 pub record LinkOf (adjacency codes : List ℕ) (f : ℕ) : Type 0 where

@@ -41,18 +41,18 @@ conditions n c v = record { number = n; codes = c; values = v }
 -- 2: each slice is as long as its records
 abbrev pub meshSizes : Mesh → List Bool
 meshSizes m =
-    eqb (length (m .geometry)) (m .counts .faces * 9)
-    ∷ eqb (length (m .heads)) (m .counts .cells * 2)
-    ∷ eqb (length (m .places)) (m .counts .cells * 4)
-    ∷ eqb (length (m .facing)) (m .counts .facings * 2)
-    ∷ eqb (length (m .bordering)) (m .counts .borderings * 2)
+    eqb (length (m .geometry)) (9 * (m .counts .faces))
+    ∷ eqb (length (m .heads)) (2 * (m .counts .cells))
+    ∷ eqb (length (m .places)) (4 * (m .counts .cells))
+    ∷ eqb (length (m .facing)) (2 * (m .counts .facings))
+    ∷ eqb (length (m .bordering)) (2 * (m .counts .borderings))
     ∷ []
 
 abbrev pub meshSized : Mesh → Bool
-meshSized m = everyOf (eqb (length (m .adjacency)) (m .counts .faces * 2)) (meshSizes m)
+meshSized m = everyOf (eqb (length (m .adjacency)) (2 * (m .counts .faces))) (meshSizes m)
 
 abbrev pub conditionsSized : ℕ → List ℕ → List Float → Bool
-conditionsSized faces codes values = eqb (length codes) (faces * 2) && eqb (length values) (faces * 4)
+conditionsSized faces codes values = eqb (length codes) (2 * faces) && eqb (length values) (4 * faces)
 
 -- 4, 5 and 6: the lowest bad face, the lowest cell with a broken chain, and a badly linked face, whichever `link` names
 unfoldable pub topology : Mesh → List ℕ → Found → Answer
@@ -86,23 +86,23 @@ pub record Checked (m : Mesh) (k : Conditions) (r : Answer) : Type 0 where
 -- ---- what the checks establish
 
 pub record Sized (m : Mesh) : Type 0 where
-  pub adjacency : length (m .adjacency) ≡ m .counts .faces * 2
-  pub geometry : length (m .geometry) ≡ m .counts .faces * 9
-  pub heads : length (m .heads) ≡ m .counts .cells * 2
-  pub places : length (m .places) ≡ m .counts .cells * 4
-  pub facing : length (m .facing) ≡ m .counts .facings * 2
-  pub bordering : length (m .bordering) ≡ m .counts .borderings * 2
+  pub adjacency : length (m .adjacency) ≡ 2 * (m .counts .faces)
+  pub geometry : length (m .geometry) ≡ 9 * (m .counts .faces)
+  pub heads : length (m .heads) ≡ 2 * (m .counts .cells)
+  pub places : length (m .places) ≡ 4 * (m .counts .cells)
+  pub facing : length (m .facing) ≡ 2 * (m .counts .facings)
+  pub bordering : length (m .bordering) ≡ 2 * (m .counts .borderings)
 
 pub record Sound (m : Mesh) (codes : List ℕ) : Type 0 where
   pub faces : (f : ℕ) → f < m .counts .faces → CellsOf (m .counts .cells) (m .adjacency) f
-  pub facings : (c : ℕ) → c < m .counts .cells → Chain (m .counts .faces) (m .facing) (firstAt (m .heads) c)
-  pub borderings : (c : ℕ) → c < m .counts .cells → Chain (m .counts .cells) (m .bordering) (secondAt (m .heads) c)
+  pub facings : (c : ℕ) → c < m .counts .cells → Chain (m .facing) (m .counts .facings) (m .counts .faces) (firstAt (m .heads) c)
+  pub borderings : (c : ℕ) → c < m .counts .cells → Chain (m .bordering) (m .counts .borderings) (m .counts .cells) (secondAt (m .heads) c)
   pub links : (f : ℕ) → f < m .counts .faces → (secondAt codes f ≡ 0 → ⊥) → LinkOf (m .adjacency) codes f
 
 pub record Good (m : Mesh) (k : Conditions) : Type 0 where
   pub small : Small (m .counts)
   pub sized : Sized m
-  pub codes : length (k .codes) ≡ m .counts .faces * 2
-  pub values : length (k .values) ≡ m .counts .faces * 4
+  pub codes : length (k .codes) ≡ 2 * (m .counts .faces)
+  pub values : length (k .values) ≡ 4 * (m .counts .faces)
   pub same : k .number ≡ m .counts .mesh
   pub sound : Sound m (k .codes)

@@ -15,10 +15,10 @@ use Rattle.mesh.specs.declared.Condition.the-variants.{Absent, Fixed, Ze
 
 -- the two numbers of record i of two: of a face its owner and its neighbour + 1, or its condition's code and its peer + 1; of a chain's record its item and the next record
 abbrev pub firstAt : List ℕ → ℕ → ℕ
-firstAt s i = getD s (i * 2) 0
+firstAt s i = getD s (2 * i) 0
 
 abbrev pub secondAt : List ℕ → ℕ → ℕ
-secondAt s i = getD s (i * 2 + 1) 0
+secondAt s i = getD s (2 * i + 1) 0
 
 -- the three numbers from the place b on
 abbrev pub vectorAt : List Float → ℕ → Vec3
@@ -29,14 +29,14 @@ abbrev pub faceAt : List ℕ → List Float → ℕ → Face
 faceAt adjacency geometry f = record {
   owner = firstAt adjacency f;
   neighbour = secondAt adjacency f;
-  center = vectorAt geometry (f * 9);
-  area = vectorAt geometry (f * 9 + 3);
-  normal = vectorAt geometry (f * 9 + 6);
+  center = vectorAt geometry (9 * f);
+  area = vectorAt geometry (9 * f + 3);
+  normal = vectorAt geometry (9 * f + 6);
 }
 
 -- a cell's four floats: centre, volume
 abbrev pub cellAt : List Float → ℕ → Cell
-cellAt places c = record { center = vectorAt places (c * 4); volume = getD places (c * 4 + 3) nan }
+cellAt places c = record { center = vectorAt places (4 * c); volume = getD places (4 * c + 3) nan }
 
 -- the condition that a code and its value stand for; an unknown code is refused before it is read
 abbrev pub conditionOf : ℕ → Float → Condition
@@ -44,7 +44,7 @@ conditionOf code value = cond (eqb code 1) (Fixed value) (cond (eqb code 2) Zero
 
 -- a face's four floats of the conditions: fixed value, translation
 abbrev pub conditionAt : List ℕ → List Float → ℕ → Condition
-conditionAt codes values f = conditionOf (firstAt codes f) (getD values (f * 4) nan)
+conditionAt codes values f = conditionOf (firstAt codes f) (getD values (4 * f) nan)
 
 abbrev pub linkAt : List ℕ → List Float → ℕ → Link
-linkAt codes values f = record { peer = secondAt codes f; translation = vectorAt values (f * 4 + 1) }
+linkAt codes values f = record { peer = secondAt codes f; translation = vectorAt values (4 * f + 1) }

@@ -1,6 +1,7 @@
 // The search for the lowest cell whose chain of records is broken.
 ghost use mathlib.Core.Path.{_≡_};
-ghost use Prim.Native.Nat.{_<_};
+ghost use Prim.Native.Nat.{_/_, _<_};
+ghost use lib.ListN.{length};
 ghost use Rattle.mesh.specs.Chains.{stepOf, headAt, cellCount, lowestBroken};
 use crate::Found;
 use crate::first_at;
@@ -24,7 +25,7 @@ pub enum Step {
 // The step at record r: broken where the record is missing or its item is not below the limit.
 fn step_at(limit: usize, records: &[usize], r: usize) -> Step
     requires { ⌜ 0 < r ⌝ }
-    ensures { λ s. ⌜ s ≡ stepOf limit (now (records .entry)) r ⌝ }
+    ensures { λ s. ⌜ s ≡ stepOf (now (records .entry)) (length (now (records .entry)) / 2) limit r ⌝ }
 {
     if r <= records.len() / 2 {
         if first_at(records, r - 1) < limit {

@@ -2,13 +2,31 @@
 ghost use mathlib.Core.Path.{_≡_};
 ghost use Prim.Native.Nat.{_+_, _*_, _<_, _≤_};
 ghost use lib.ListN.{length};
-ghost use Rattle.mesh.specs.Records.{vectorAt, faceAt, cellAt, conditionAt, linkAt};
+ghost use Rattle.mesh.specs.Pass.{putVector};
+ghost use Rattle.mesh.specs.Records.{firstAt, secondAt, vectorAt, faceAt, cellAt, conditionAt, linkAt};
 use crate::Cell;
 use crate::Condition;
 use crate::Face;
 use crate::Link;
 use crate::Vec3;
 use crate::condition_of;
+
+// The two numbers of record i of two.
+pub fn first_of(s: &[usize], i: usize) -> usize
+    requires { ⌜ 2 * i + 1 < length (now s) ⌝ }
+    ensures { λ r. ⌜ r ≡ firstAt (now (s .entry)) i ⌝ }
+{
+    let b = 2 * i;
+    s[b]
+}
+
+pub fn second_of(s: &[usize], i: usize) -> usize
+    requires { ⌜ 2 * i + 1 < length (now s) ⌝ }
+    ensures { λ r. ⌜ r ≡ secondAt (now (s .entry)) i ⌝ }
+{
+    let b = 2 * i;
+    s[b + 1]
+}
 
 // The three numbers from the place b on.
 pub fn vector_at(s: &[f64], b: usize) -> Vec3
@@ -23,11 +41,11 @@ pub fn vector_at(s: &[f64], b: usize) -> Vec3
 }
 
 pub fn face_at(adjacency: &[usize], geometry: &[f64], f: usize) -> Face
-    requires { ⌜ (f * 2 + 1 < length (now adjacency)) × (f * 9 + 8 < length (now geometry)) ⌝ }
+    requires { ⌜ (2 * f + 1 < length (now adjacency)) × (9 * f + 8 < length (now geometry)) ⌝ }
     ensures { λ r. ⌜ r ≡ faceAt (now (adjacency .entry)) (now (geometry .entry)) f ⌝ }
 {
-    let a = f * 2;
-    let g = f * 9;
+    let a = 2 * f;
+    let g = 9 * f;
     Face {
         owner: adjacency[a],
         neighbour: adjacency[a + 1],
@@ -38,10 +56,10 @@ pub fn face_at(adjacency: &[usize], geometry: &[f64], f: usize) -> Face
 }
 
 pub fn cell_at(places: &[f64], c: usize) -> Cell
-    requires { ⌜ c * 4 + 3 < length (now places) ⌝ }
+    requires { ⌜ 4 * c + 3 < length (now places) ⌝ }
     ensures { λ r. ⌜ r ≡ cellAt (now (places .entry)) c ⌝ }
 {
-    let p = c * 4;
+    let p = 4 * c;
     Cell {
         center: vector_at(places, p),
         volume: places[p + 3],
@@ -49,22 +67,33 @@ pub fn cell_at(places: &[f64], c: usize) -> Cell
 }
 
 pub fn condition_at(codes: &[usize], values: &[f64], f: usize) -> Condition
-    requires { ⌜ (f * 2 + 1 < length (now codes)) × (f * 4 + 3 < length (now values)) ⌝ }
+    requires { ⌜ (2 * f + 1 < length (now codes)) × (4 * f + 3 < length (now values)) ⌝ }
     ensures { λ r. ⌜ r ≡ conditionAt (now (codes .entry)) (now (values .entry)) f ⌝ }
 {
-    let c = f * 2;
-    let v = f * 4;
+    let c = 2 * f;
+    let v = 4 * f;
     condition_of(codes[c], values[v])
 }
 
 pub fn link_at(codes: &[usize], values: &[f64], f: usize) -> Link
-    requires { ⌜ (f * 2 + 1 < length (now codes)) × (f * 4 + 3 < length (now values)) ⌝ }
+    requires { ⌜ (2 * f + 1 < length (now codes)) × (4 * f + 3 < length (now values)) ⌝ }
     ensures { λ r. ⌜ r ≡ linkAt (now (codes .entry)) (now (values .entry)) f ⌝ }
 {
-    let c = f * 2;
-    let v = f * 4;
+    let c = 2 * f;
+    let v = 4 * f;
     Link {
         peer: codes[c + 1],
         translation: vector_at(values, v + 1),
     }
+}
+
+// Writes the vector i of a slice of three numbers each.
+pub fn put_vector(out: &mut [f64], i: usize, v: Vec3)
+    requires { ⌜ 3 * i + 2 < length (now out) ⌝ }
+    ensures { λ _. ⌜ now (out .exit) ≡ putVector (now (out .entry)) i v ⌝ }
+{
+    let b = 3 * i;
+    out[b] = v.x;
+    out[b + 1] = v.y;
+    out[b + 2] = v.z;
 }

@@ -27,6 +27,7 @@ pub struct Vec3 {
 
 // A mesh's number, its dimension, and how many cells, faces, face records and neighbour records it
 // has.
+#[repr(C)]
 pub struct Counts {
     pub mesh: u64,
     pub dimension: usize,
@@ -103,13 +104,13 @@ pub fn number_at(s: &[usize], i: usize) -> usize
 pub fn first_at(s: &[usize], i: usize) -> usize
     ensures { λ r. ⌜ r ≡ firstAt (now (s .entry)) i ⌝ }
 {
-    if i < (s.len() + 1) / 2 { s[i * 2] } else { 0 }
+    if i < (s.len() + 1) / 2 { s[2 * i] } else { 0 }
 }
 
 pub fn second_at(s: &[usize], i: usize) -> usize
     ensures { λ r. ⌜ r ≡ secondAt (now (s .entry)) i ⌝ }
 {
-    if i < s.len() / 2 { s[i * 2 + 1] } else { 0 }
+    if i < s.len() / 2 { s[2 * i + 1] } else { 0 }
 }
 
 // Check 1: the counts are those of a mesh.
@@ -126,7 +127,7 @@ pub fn sizes_ok(counts: Counts) -> bool
 
 // Check 2: a slice's length is that of `count` records of `width` numbers.
 pub fn is_sized(len: usize, width: usize, count: usize) -> bool
-    ensures { λ r. ⌜ r ≡ eqb len (count * width) ⌝ }
+    ensures { λ r. ⌜ r ≡ eqb len (width * count) ⌝ }
 {
     if width == 0 {
         return len == 0;
@@ -194,7 +195,7 @@ pub fn lowest_unknown_code(codes: &[usize]) -> Found
 {
     let mut f = 0;
     while f < codes.len() / 2 {
-        if 2 < codes[f * 2] {
+        if 2 < codes[2 * f] {
             return Found::At(f);
         }
         f += 1;

@@ -2,11 +2,11 @@
 use mathlib.Core.Path.{_≡_, refl, sym, _∙_, ap}
 use mathlib.Core.Bool.{Bool, true, not}
 use mathlib.Core.Logic.{⊎-elim}
+use mathlib.Core.List.{List}
 use Prim.Native.Nat.{ℕ, _-_, _/_}
 use native.Mathlib.Omega.{arith}
 use lib.ListN.{length}
 use denote.Ref.{now}
-use Rattle.mesh.specs.declared.chain.Step.{Step}
 use Rattle.mesh.specs.declared.Found.the-variants.{At, Nothing}
 use Rattle.mesh.specs.Search.{lowestWhere}
 use Rattle.mesh.specs.Chains.{stepOf, ends, headAt, cellCount, brokenCell}
@@ -17,7 +17,7 @@ use Rattle.mesh.proofs.chain.lowest_broken.Statement.{statement}
 use Rattle.mesh.proofs.chain.lowest_broken.Tie as tie
 
 abbrev Inv-loop : tie.InvT-loop
-Inv-loop limit records form heads cells cell r₀ left₀ r left = ends (stepOf limit records) left r ≡ ends (stepOf limit records) (length records / 2) (headAt form heads cell)
+Inv-loop limit records form heads cells cell r₀ left₀ r left = ends records (length records / 2) limit left r ≡ ends records (length records / 2) limit (length records / 2) (headAt form heads cell)
 
 abbrev μ-loop : tie.MeasureT-loop
 μ-loop limit records form heads cells cell r₀ left₀ r left = left
@@ -31,12 +31,12 @@ abbrev μ-cells : tie.MeasureT-cells
 abbrev St : Type 0
 St = tie.Start Inv-loop μ-loop Inv-cells μ-cells
 
--- the test of a cell, and the step at a record, of the lists that are lent
+-- the test of a cell, and the records that are lent
 abbrev bad : St → ℕ → Bool
 bad s = brokenCell (s .args .limit) (now (s .args .records)) (s .args .form) (now (s .args .heads))
 
-abbrev steps : St → ℕ → Step
-steps s = stepOf (s .args .limit) (now (s .args .records))
+abbrev lent : St → List ℕ
+lent s = now (s .args .records)
 
 cell-count-requires : tie.Need-cell-count-requires Inv-loop μ-loop Inv-cells μ-cells
 cell-count-requires c κs = tt
@@ -71,7 +71,7 @@ loop-again c =
     let l : tie.In-loop Inv-loop μ-loop Inv-cells μ-cells = search in
     let e : tie.Else1 Inv-loop μ-loop Inv-cells μ-cells = search in
     let a : tie.After-step-at Inv-loop μ-loop Inv-cells μ-cells = search in
-    goes-on (steps s) (l .before .loop .left) (l .before .loop .r) _ (e .if1 .left) (l .loop-test .taken)
+    goes-on (lent s) (length (lent s) / 2) (s .args .limit) (l .before .loop .left) (l .before .loop .r) _ (e .if1 .left) (l .loop-test .taken)
     (sym (a .step-at .ensures) ∙ c .before .s .given .1) ∙ l .before .loop .inv
 
 add-cell : tie.Need-add-cell Inv-loop μ-loop Inv-cells μ-cells
@@ -90,7 +90,7 @@ cells-again c =
     let n : tie.After-cell-count Inv-loop μ-loop Inv-cells μ-cells = search in
     let i : tie.In-cells Inv-loop μ-loop Inv-cells μ-cells = search in
     more (bad s) (n .cell-count .result) (i .before .cells .cell) (i .before .cells .inv) (i .cells-test .taken)
-    (ap not (sym (c .before .loop .inv) ∙ ended (steps s) (c .before .loop .left) (c .before .loop .r) (c .loop-test .left)))
+    (ap not (sym (c .before .loop .inv) ∙ ended (lent s) (length (lent s) / 2) (s .args .limit) (c .before .loop .left) (c .before .loop .r) (c .loop-test .left)))
 
 returns : tie.Need-returns Inv-loop μ-loop Inv-cells μ-cells
 unfolding brokenCell
@@ -103,8 +103,8 @@ returns c =
     ⊎-elim
     (λ w. absurd (omega (arith, w .left, c .if2 .taken)))
     (⊎-elim
-    (λ w. at (ap not (sym (w .2 .inv) ∙ no-end (steps s) (w .2 .left) (w .2 .r) (w .4 .taken) (w .3 .taken))))
-    (λ w. at (ap not (sym (w .2 .inv) ∙ breaks (steps s) (w .2 .left) (w .2 .r) (w .3 .taken) (sym (w .5 .ensures) ∙ w .7 .given .1)))))
+    (λ w. at (ap not (sym (w .2 .inv) ∙ no-end (lent s) (length (lent s) / 2) (s .args .limit) (w .2 .left) (w .2 .r) (w .4 .taken) (w .3 .taken))))
+    (λ w. at (ap not (sym (w .2 .inv) ∙ breaks (lent s) (length (lent s) / 2) (s .args .limit) (w .2 .left) (w .2 .r) (w .3 .taken) (sym (w .5 .ensures) ∙ w .7 .given .1)))))
     (c .before .cells-test .came)
 
 returns-2 : tie.Need-returns-2 Inv-loop μ-loop Inv-cells μ-cells

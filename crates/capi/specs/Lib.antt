@@ -1,0 +1,2 @@
+-- The answers of the entries as C has them.
+pub mod Told

@@ -1,0 +1,2 @@
+-- The search for the next cell of a ring.
+pub mod Laws

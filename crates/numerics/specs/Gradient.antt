@@ -1,0 +1,69 @@
+-- The gradient of a cell field from a lent stencil. Definitions only.
+use mathlib.Core.Path.{_≡_}
+use mathlib.Core.List.{List, [], _∷_}
+use mathlib.Core.Bool.{Bool, _&&_, cond}
+use Prim.Native.Nat.{ℕ, _+_, _-_, _*_, _<_}
+use lib.Dec.{eqb, leb}
+use lib.ListN.{length, getD}
+use lib.Ieee.{Float, nan}
+use Rattle.binary64.specs.Numbers.{_⊖_}
+use Rattle.mesh.specs.Answers.{pass, at, firstOf}
+use Rattle.mesh.specs.Checks.{sizesOk}
+use Rattle.mesh.specs.Chains.{trail, lowestBroken, Chain}
+use Rattle.mesh.specs.Pass.{vectorsOf}
+use Rattle.mesh.specs.Records.{firstAt, vectorAt}
+use Rattle.mesh.specs.Vector.{vec, zero3, dot, sum, scaled}
+use Rattle.mesh.specs.declared.Answer.{Answer}
+use Rattle.mesh.specs.declared.Counts.{Counts}
+use Rattle.mesh.specs.declared.Vec3.{Vec3}
+use Rattle.mesh.specs.declared.chain.Form.the-variants.{Single}
+use Rattle.numerics.specs.Checks.{Slices, lengthsOf, stencilSized}
+
+-- the other value of an equation: the cell's own for a zero normal derivative, the fixed value, or a neighbour's
+unfoldable pub sourceValue : List Float → Float → ℕ → Float → Float
+sourceValue field own source value = cond (eqb source 0) own (cond (eqb source 1) value (getD field (source - 2) nan))
+
+-- the right side with the term of the record r: coefficient × (other − own)
+unfoldable pub addTerm : Slices → List Float → Float → ℕ → Vec3 → Vec3
+addTerm s field own r right =
+    let b = 4 * (r - 1) in
+    sum right (scaled (vectorAt (s .weights) b) (sourceValue field own (firstAt (s .equations) (r - 1)) (getD (s .weights) (b + 3) nan) ⊖ own))
+
+-- the terms of a list of records, one after the other
+unfoldable pub addTerms : (ℕ → Vec3 → Vec3) → List ℕ → Vec3 → Vec3
+addTerms step [] right = right
+addTerms step (r ∷ rs) right = addTerms step rs (step r right)
+
+-- the right side of the cell c
+unfoldable pub rightSide : Slices → ℕ → List Float → ℕ → Vec3
+rightSide s records field c = addTerms (addTerm s field (getD field c nan)) (trail (s .equations) records (getD (s .starts) c 0)) zero3
+
+-- the rows of the inverse times the right side
+unfoldable pub product : List Float → ℕ → Vec3 → Vec3
+product inverses c v = vec (dot (vectorAt inverses (9 * c)) v) (dot (vectorAt inverses (9 * c + 3)) v) (dot (vectorAt inverses (9 * c + 6)) v)
+
+unfoldable pub gradientAt : Slices → ℕ → List Float → ℕ → Vec3
+gradientAt s records field c = product (s .inverses) c (rightSide s records field c)
+
+unfoldable pub gradients : Slices → ℕ → List Float → ℕ → List Float
+gradients s records field cells = vectorsOf (gradientAt s records field) cells
+
+-- ---- the entry
+
+-- 1, 2, 3 and 5 of what it is lent; `stencil` and `number` are the mesh numbers of the stencil and of the field
+unfoldable pub gradientChecks : Counts → ℕ → ℕ → Slices → ℕ → List Float → ℕ → Answer
+gradientChecks n stencil records s number field outs =
+    firstOf
+    (pass 1 (sizesOk n && leb records 65535)
+    ∷ pass 2 (stencilSized (n .cells) records (lengthsOf s) && eqb (length field) (n .cells) && eqb outs (3 * (n .cells)))
+    ∷ pass 3 (eqb stencil (n .mesh) && eqb number (n .mesh))
+    ∷ at 5 (lowestBroken (n .cells + 2) (s .equations) Single (s .starts))
+    ∷ [])
+
+-- what the checks establish
+pub record Sloped (s : Slices) (records : ℕ) (field : List Float) : Type 0 where
+  pub starts : length (s .starts) ≡ length field
+  pub equations : length (s .equations) ≡ 2 * records
+  pub weights : length (s .weights) ≡ 4 * records
+  pub inverses : length (s .inverses) ≡ 9 * length field
+  pub chains : (c : ℕ) → c < length field → Chain (s .equations) records (length field + 2) (getD (s .starts) c 0)

@@ -1,0 +1,8 @@
+pub mod Lent
+pub mod Ring
+pub mod Building
+pub mod Cell
+pub mod Stencil
+pub mod Checks
+pub mod Gradient
+pub mod Outflow

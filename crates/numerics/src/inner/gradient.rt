@@ -1,0 +1,116 @@
+// The gradient of each cell from a stencil.
+ghost use mathlib.Core.Path.{_≡_};
+ghost use Prim.Native.Nat.{_+_, _*_, _-_, _<_};
+ghost use lib.ListN.{length, getD};
+ghost use lib.Ieee.{nan};
+ghost use Rattle.numerics.specs.Checks.{slices};
+ghost use Rattle.numerics.specs.Gradient.{Sloped, sourceValue, addTerm, rightSide, product, gradientAt, gradients};
+use mesh::Vec3;
+
+fn source_value(field: &[f64], own: f64, source: usize, value: f64) -> f64
+    requires { ⌜ source < length (now field) + 2 ⌝ }
+    ensures { λ r. ⌜ r ≡ sourceValue (now (field .entry)) own source value ⌝ }
+{
+    match source {
+        0 => own,
+        1 => value,
+        _ => field[source - 2],
+    }
+}
+
+// The right side with the term of the record r.
+fn add_term(
+    starts: &[usize],
+    equations: &[usize],
+    weights: &[f64],
+    inverses: &[f64],
+    records: usize,
+    field: &[f64],
+    own: f64,
+    r: usize,
+    right: Vec3,
+) -> Vec3
+    requires { ⌜ Sloped (slices (now starts) (now equations) (now weights) (now inverses)) records (now field) ⌝ }
+    requires { ⌜ (0 < r) × (2 * r < length (now equations) + 1) × (getD (now equations) (2 * (r - 1)) 0 < length (now field) + 2) ⌝ }
+    ensures { λ v. ⌜ v ≡ addTerm (slices (now (starts .entry)) (now (equations .entry)) (now (weights .entry)) (now (inverses .entry))) (now (field .entry)) own r right ⌝ }
+{
+    let b = 4 * (r - 1);
+    let source = mesh::inner::first_of(equations, r - 1);
+    let other = source_value(field, own, source, weights[b + 3]);
+    let coefficient = mesh::inner::vector_at(weights, b);
+    right.add(coefficient.scale(other - own))
+}
+
+// The right side of the cell c.
+fn right_side(
+    starts: &[usize],
+    equations: &[usize],
+    weights: &[f64],
+    inverses: &[f64],
+    records: usize,
+    field: &[f64],
+    c: usize,
+) -> Vec3
+    requires { ⌜ Sloped (slices (now starts) (now equations) (now weights) (now inverses)) records (now field) ⌝ }
+    requires { ⌜ c < length (now field) ⌝ }
+    ensures { λ v. ⌜ v ≡ rightSide (slices (now (starts .entry)) (now (equations .entry)) (now (weights .entry)) (now (inverses .entry))) records (now (field .entry)) c ⌝ }
+{
+    let own = field[c];
+    let mut right = Vec3 {
+        x: 0.0,
+        y: 0.0,
+        z: 0.0,
+    };
+    let mut r = starts[c];
+    while r != 0 {
+        right = add_term(
+            starts,
+            equations,
+            weights,
+            inverses,
+            records,
+            field,
+            own,
+            r,
+            right,
+        );
+        r = mesh::inner::second_of(equations, r - 1);
+    }
+    right
+}
+
+// The rows of the inverse of the cell c, times a vector.
+fn times_inverse(inverses: &[f64], c: usize, v: Vec3) -> Vec3
+    requires { ⌜ 9 * c + 8 < length (now inverses) ⌝ }
+    ensures { λ r. ⌜ r ≡ product (now (inverses .entry)) c v ⌝ }
+{
+    let b = 9 * c;
+    Vec3 {
+        x: mesh::inner::vector_at(inverses, b).dot(v),
+        y: mesh::inner::vector_at(inverses, b + 3).dot(v),
+        z: mesh::inner::vector_at(inverses, b + 6).dot(v),
+    }
+}
+
+// The gradients of all cells, three numbers each.
+pub fn least_squares_gradient(
+    starts: &[usize],
+    equations: &[usize],
+    weights: &[f64],
+    inverses: &[f64],
+    records: usize,
+    field: &[f64],
+    out: &mut [f64],
+)
+    requires { ⌜ Sloped (slices (now starts) (now equations) (now weights) (now inverses)) records (now field) ⌝ }
+    requires { ⌜ length (now out) ≡ 3 * length (now field) ⌝ }
+    ensures { λ _. ⌜ now (out .exit) ≡ gradients (slices (now (starts .entry)) (now (equations .entry)) (now (weights .entry)) (now (inverses .entry))) records (now (field .entry)) (length (now (field .entry))) ⌝ }
+{
+    let mut c = 0;
+    while c < field.len() {
+        let right = right_side(starts, equations, weights, inverses, records, field, c);
+        let gradient = times_inverse(inverses, c, right);
+        mesh::inner::put_vector(out, c, gradient);
+        c += 1;
+    }
+}

@@ -1,0 +1,270 @@
+// Operators on a mesh: the least-squares stencil, the gradient from it, and the outflow of each cell.
+ghost use mathlib.Core.Path.{_≡_};
+ghost use lib.ListN.{length};
+ghost use Rattle.mesh.specs.Mesh.{mesh, conditions};
+ghost use Rattle.mesh.specs.Pass.{unless};
+ghost use Rattle.numerics.specs.Checks.{lengths, stencilSized, StencilChecked, slices, StencilCall};
+ghost use Rattle.numerics.specs.Gradient.{gradients, gradientChecks};
+ghost use Rattle.numerics.specs.Outflow.{outflows, outflowChecks, Scattered};
+use mesh::Answer;
+use mesh::Counts;
+use mesh::Found;
+
+pub mod inner;
+
+fn stencil_sized(
+    cells: usize,
+    records: usize,
+    starts: usize,
+    equations: usize,
+    weights: usize,
+    inverses: usize,
+) -> bool
+    ensures { λ r. ⌜ r ≡ stencilSized cells records (lengths starts equations weights inverses) ⌝ }
+{
+    (starts == cells)
+        & mesh::is_sized(equations, 2, records)
+        & mesh::is_sized(weights, 4, records)
+        & mesh::is_sized(inverses, 9, cells)
+}
+
+// The checks 1 to 6 for an entry that builds a stencil; the last four are the lengths of its slices.
+fn check_stencil(
+    counts: Counts,
+    adjacency: &[usize],
+    geometry: &[f64],
+    heads: &[usize],
+    places: &[f64],
+    facing: &[usize],
+    bordering: &[usize],
+    number: u64,
+    codes: &[usize],
+    values: &[f64],
+    records: usize,
+    starts: usize,
+    equations: usize,
+    weights: usize,
+    inverses: usize,
+) -> Answer
+    ensures { λ r. ⌜ StencilChecked (mesh counts (now (adjacency .entry)) (now (geometry .entry)) (now (heads .entry)) (now (places .entry)) (now (facing .entry)) (now (bordering .entry))) (conditions number (now (codes .entry)) (now (values .entry))) records (lengths starts equations weights inverses) r ⌝ }
+{
+    if !(mesh::sizes_ok(counts) & (records <= 65535)) {
+        return Answer::Refused(1, 0);
+    }
+    if !(mesh::mesh_sized(
+        counts,
+        adjacency,
+        geometry,
+        heads,
+        places,
+        facing,
+        bordering,
+    )
+        & mesh::conditions_sized(counts.faces, codes, values)
+        & stencil_sized(counts.cells, records, starts, equations, weights, inverses)) {
+        return Answer::Refused(2, 0);
+    }
+    if number != counts.mesh {
+        return Answer::Refused(3, 0);
+    }
+    mesh::check_topology(
+        counts,
+        adjacency,
+        geometry,
+        heads,
+        places,
+        facing,
+        bordering,
+        codes,
+    )
+}
+
+// The equations of every cell as chained records, the first record of each cell, and the nine
+// numbers of each inverse. `number` is the mesh number of the conditions, and there is room for
+// `records` records.
+pub fn least_squares_stencil(
+    counts: Counts,
+    adjacency: &[usize],
+    geometry: &[f64],
+    heads: &[usize],
+    places: &[f64],
+    facing: &[usize],
+    bordering: &[usize],
+    number: u64,
+    codes: &[usize],
+    values: &[f64],
+    records: usize,
+    starts: &mut [usize],
+    equations: &mut [usize],
+    weights: &mut [f64],
+    inverses: &mut [f64],
+) -> Answer
+    ensures { λ r. ⌜ StencilCall (mesh counts (now (adjacency .entry)) (now (geometry .entry)) (now (heads .entry)) (now (places .entry)) (now (facing .entry)) (now (bordering .entry))) (conditions number (now (codes .entry)) (now (values .entry))) records (slices (now (starts .entry)) (now (equations .entry)) (now (weights .entry)) (now (inverses .entry))) r (slices (now (starts .exit)) (now (equations .exit)) (now (weights .exit)) (now (inverses .exit))) ⌝ }
+{
+    let a = check_stencil(
+        counts,
+        adjacency,
+        geometry,
+        heads,
+        places,
+        facing,
+        bordering,
+        number,
+        codes,
+        values,
+        records,
+        starts.len(),
+        equations.len(),
+        weights.len(),
+        inverses.len(),
+    );
+    match a {
+        Answer::Accepted => inner::stencil::least_squares_stencil(
+            counts,
+            adjacency,
+            geometry,
+            heads,
+            places,
+            facing,
+            bordering,
+            codes,
+            values,
+            records,
+            starts,
+            equations,
+            weights,
+            inverses,
+        ),
+        Answer::Refused(k, i) => Answer::Refused(k, i),
+    }
+}
+
+// The checks 1, 2, 3 and 5 of a lent stencil and a cell field; `outs` is the length of the output.
+fn check_gradient(
+    counts: Counts,
+    stencil: u64,
+    records: usize,
+    starts: &[usize],
+    equations: &[usize],
+    weights: &[f64],
+    inverses: &[f64],
+    number: u64,
+    field: &[f64],
+    outs: usize,
+) -> Answer
+    ensures { λ r. ⌜ r ≡ gradientChecks counts stencil records (slices (now (starts .entry)) (now (equations .entry)) (now (weights .entry)) (now (inverses .entry))) number (now (field .entry)) outs ⌝ }
+{
+    if !(mesh::sizes_ok(counts) & (records <= 65535)) {
+        return Answer::Refused(1, 0);
+    }
+    if !(stencil_sized(
+        counts.cells,
+        records,
+        starts.len(),
+        equations.len(),
+        weights.len(),
+        inverses.len(),
+    )
+        & (field.len() == counts.cells)
+        & mesh::is_sized(outs, 3, counts.cells)) {
+        return Answer::Refused(2, 0);
+    }
+    if !((stencil == counts.mesh) & (number == counts.mesh)) {
+        return Answer::Refused(3, 0);
+    }
+    let cell = mesh::lowest_broken_equation(counts.cells + 2, starts, equations);
+    if let Found::At(c) = cell {
+        return Answer::Refused(5, c);
+    }
+    Answer::Accepted
+}
+
+// The gradient of a cell field from a stencil, three numbers a cell. `stencil` is the mesh number of
+// the stencil, and `number` that of the field.
+pub fn least_squares_gradient(
+    counts: Counts,
+    stencil: u64,
+    records: usize,
+    starts: &[usize],
+    equations: &[usize],
+    weights: &[f64],
+    inverses: &[f64],
+    number: u64,
+    field: &[f64],
+    out: &mut [f64],
+) -> Answer
+    ensures { λ r. ⌜ r ≡ gradientChecks counts stencil records (slices (now (starts .entry)) (now (equations .entry)) (now (weights .entry)) (now (inverses .entry))) number (now (field .entry)) (length (now (out .entry))) ⌝ }
+    ensures { λ r. ⌜ now (out .exit) ≡ unless r (now (out .entry)) (gradients (slices (now (starts .entry)) (now (equations .entry)) (now (weights .entry)) (now (inverses .entry))) records (now (field .entry)) (counts .cells)) ⌝ }
+{
+    let a = check_gradient(
+        counts,
+        stencil,
+        records,
+        starts,
+        equations,
+        weights,
+        inverses,
+        number,
+        field,
+        out.len(),
+    );
+    match a {
+        Answer::Accepted => {
+            inner::gradient::least_squares_gradient(
+                starts,
+                equations,
+                weights,
+                inverses,
+                records,
+                field,
+                out,
+            );
+            Answer::Accepted
+        }
+        Answer::Refused(k, i) => Answer::Refused(k, i),
+    }
+}
+
+fn check_flux(counts: Counts, adjacency: &[usize], number: u64, flux: &[f64], outs: usize) -> Answer
+    ensures { λ r. ⌜ r ≡ outflowChecks counts (now (adjacency .entry)) number (now (flux .entry)) outs ⌝ }
+{
+    if !mesh::sizes_ok(counts) {
+        return Answer::Refused(1, 0);
+    }
+    if !(mesh::is_sized(adjacency.len(), 2, counts.faces)
+        & (flux.len() == counts.faces)
+        & (outs == counts.cells)) {
+        return Answer::Refused(2, 0);
+    }
+    if number != counts.mesh {
+        return Answer::Refused(3, 0);
+    }
+    let face = mesh::lowest_bad_face(counts.cells, adjacency);
+    if let Found::At(f) = face {
+        return Answer::Refused(4, f);
+    }
+    Answer::Accepted
+}
+
+// Each face's flux added to its owner's outflow and taken from its neighbour's, in face order from
+// +0.0. `number` is the mesh number of the flux.
+pub fn integrated_divergence(
+    counts: Counts,
+    adjacency: &[usize],
+    number: u64,
+    flux: &[f64],
+    out: &mut [f64],
+) -> Answer
+    ensures { λ r. ⌜ r ≡ outflowChecks counts (now (adjacency .entry)) number (now (flux .entry)) (length (now (out .entry))) ⌝ }
+    ensures { λ r. ⌜ now (out .exit) ≡ unless r (now (out .entry)) (outflows (counts .cells) (now (adjacency .entry)) (now (flux .entry))) ⌝ }
+    ensures { λ r. ⌜ Scattered r (counts .cells) (now (adjacency .entry)) (now (flux .entry)) (now (out .exit)) ⌝ }
+{
+    let a = check_flux(counts, adjacency, number, flux, out.len());
+    match a {
+        Answer::Accepted => {
+            inner::outflow::integrated_divergence(adjacency, flux, out);
+            Answer::Accepted
+        }
+        Answer::Refused(k, i) => Answer::Refused(k, i),
+    }
+}

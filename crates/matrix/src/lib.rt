@@ -17,7 +17,7 @@ pub struct Normal {
 }
 
 // The lower triangle of a factored matrix.
-pub struct Lower {
+struct Lower {
     pub a: f64,
     pub b: f64,
     pub c: f64,
@@ -26,7 +26,7 @@ pub struct Lower {
     pub f: f64,
 }
 
-pub enum Pivot {
+enum Pivot {
     Unfit,
     Root(f64),
 }
@@ -53,7 +53,7 @@ pub fn add_outer(n: Normal, a: Vec3, b: Vec3) -> Normal
     }
 }
 
-pub fn all_finite(n: Normal) -> bool
+fn all_finite(n: Normal) -> bool
     ensures { λ r. ⌜ r ≡ allFinite n ⌝ }
 {
     binary64::finite(n.xx)
@@ -67,7 +67,7 @@ pub fn all_finite(n: Normal) -> bool
         & binary64::finite(n.zz)
 }
 
-pub fn inverse_2d(n: Normal) -> Inversion
+fn inverse_2d(n: Normal) -> Inversion
     ensures { λ r. ⌜ r ≡ inverse2 n ⌝ }
 {
     let determinant = n.xx * n.yy - n.xy * n.yx;
@@ -89,8 +89,8 @@ pub fn inverse_2d(n: Normal) -> Inversion
     Inversion::Inverse(whole)
 }
 
-// The root of a pivot that is finite and above 64 binary64::EPSILON times the scale.
-pub fn pivot_root(value: f64, scale: f64) -> Pivot
+// The root of a pivot that is finite and above 64 EPS times the scale.
+fn pivot_root(value: f64, scale: f64) -> Pivot
     ensures { λ r. ⌜ r ≡ pivot value scale ⌝ }
 {
     if binary64::finite(value) {
@@ -103,7 +103,7 @@ pub fn pivot_root(value: f64, scale: f64) -> Pivot
 }
 
 // The column x with (l lᵀ) x = e: forward and back.
-pub fn solve_column(l: Lower, e: Vec3) -> Vec3
+fn solve_column(l: Lower, e: Vec3) -> Vec3
     ensures { λ r. ⌜ r ≡ solve l e ⌝ }
 {
     let p = e.x / l.a;
@@ -115,7 +115,7 @@ pub fn solve_column(l: Lower, e: Vec3) -> Vec3
     Vec3 { x: x, y: y, z: z }
 }
 
-pub fn three_columns(l: Lower) -> Normal
+fn three_columns(l: Lower) -> Normal
     ensures { λ r. ⌜ r ≡ columns l ⌝ }
 {
     let u = solve_column(
@@ -156,7 +156,7 @@ pub fn three_columns(l: Lower) -> Normal
 }
 
 // Cholesky's factors, row by row, and the inverse from them.
-pub fn factored_inverse(n: Normal, scale: f64) -> Inversion
+fn factored_inverse(n: Normal, scale: f64) -> Inversion
     ensures { λ r. ⌜ r ≡ factored n scale ⌝ }
 {
     let first = pivot_root(n.xx, scale);
@@ -185,7 +185,7 @@ pub fn factored_inverse(n: Normal, scale: f64) -> Inversion
     Inversion::Inverse(whole)
 }
 
-pub fn inverse_3d(n: Normal) -> Inversion
+fn inverse_3d(n: Normal) -> Inversion
     ensures { λ r. ⌜ r ≡ inverse3 n ⌝ }
 {
     let scale = binary64::max(

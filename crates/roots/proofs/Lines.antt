@@ -5,7 +5,8 @@ use Prim.Native.Nat.{ℕ, _≤_}
 use native.Mathlib.Omega.{arith}
 use lib.ListN.{length, getD, take, drop, length-drop, drop-of-length-le}
 use lib.Seq.{split-at, getD-drop}
-use Rattle.roots.specs.Text.{hexText, lineOf}
+use Rattle.pattern.specs.Text.{hexText}
+use Rattle.roots.specs.Text.{lineOf}
 
 module _ (x root : ℕ) where
   pub line-length : length (lineOf x root) ≡ 34

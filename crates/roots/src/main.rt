@@ -7,7 +7,6 @@ use libc::STDOUT_FILENO;
 use line::Line;
 
 mod line;
-mod pattern;
 
 // The lines checked so far, and whether to read on.
 struct Tally {

@@ -3,9 +3,9 @@ use mathlib.Core.Path.{_≡_, sym, ap, _∙_, subst}
 use mathlib.Core.List.{List}
 use Prim.Native.Nat.{ℕ}
 use lib.ListN.{length, getD, take, drop}
-use Rattle.roots.specs.declared.line.Hex.{Hex}
-use Rattle.roots.specs.declared.line.Hex.the-variants as variants
-use Rattle.roots.specs.Text.{Spells, hexText}
+use Rattle.pattern.specs.declared.Hex.{Hex}
+use Rattle.pattern.specs.declared.Hex.the-variants as variants
+use Rattle.pattern.specs.Text.{Spells, hexText}
 use Rattle.roots.proofs.Lines.{line-length, line-space, line-newline, line-first, line-second, line-of}
 use borrow.Author.Needs.{needs}
 use Rattle.roots.proofs.line.patterns.Statement.{statement}

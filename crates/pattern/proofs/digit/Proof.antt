@@ -1,11 +1,11 @@
--- `roots::line::digit` meets its contract: its ranges are those of the digits' codes. Assumes nothing.
+-- `pattern::digit` meets its contract: its ranges are those of the digits' codes. Assumes nothing.
 use mathlib.Core.Path.{_∙_}
 use Prim.Native.Nat.{_+_, _-_}
 use native.Mathlib.Omega.{arith}
 use borrow.Author.Needs.{needs}
-use Rattle.roots.proofs.Digits.{glyph-low, glyph-high, some-digit, no-digit}
-use Rattle.roots.proofs.line.digit.Statement.{statement}
-use Rattle.roots.proofs.line.digit.Tie as tie
+use Rattle.pattern.proofs.Digits.{glyph-low, glyph-high, some-digit, no-digit}
+use Rattle.pattern.proofs.digit.Statement.{statement}
+use Rattle.pattern.proofs.digit.Tie as tie
 
 cast-result : tie.Need-cast-result
 cast-result c = search needs

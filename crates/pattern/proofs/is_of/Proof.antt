@@ -1,4 +1,4 @@
--- `roots::pattern::is_of` meets its contract: off the NaNs a value has one pattern. Assumes nothing.
+-- `pattern::is_of` meets its contract: off the NaNs a value has one pattern. Assumes nothing.
 use mathlib.Core.Path.{_≡_, sym, ap, _∙_, subst}
 use mathlib.Core.Bool.{not}
 use borrow.Author.Needs.{needs}
@@ -8,8 +8,8 @@ use lib.Ieee.{Float, nan, binary64, fits, isNan, ofBits, toBits}
 use lib.Ieee.Bits.{ofBits-toBits, toBits-ofBits}
 use lib.Ieee.Compare.{differs-from-itself}
 use Rattle.binary64.proofs.Bits.{equal-no-nan, nan-of-bits, bits-of-nan}
-use Rattle.roots.proofs.pattern.is_of.Statement.{statement}
-use Rattle.roots.proofs.pattern.is_of.Tie as tie
+use Rattle.pattern.proofs.is_of.Statement.{statement}
+use Rattle.pattern.proofs.is_of.Tie as tie
 
 is-nan-requires : tie.Need-is-nan-requires
 is-nan-requires c κs = search needs

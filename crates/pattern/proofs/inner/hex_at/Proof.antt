@@ -1,4 +1,4 @@
--- `roots::line::hex_at` meets its contract. The loop's invariant: the i bytes passed spell n. Assumes nothing.
+-- `pattern::inner::hex_at` meets its contract. The loop's invariant: the i bytes passed spell n. Assumes nothing.
 use mathlib.Core.Path.{_≡_, refl}
 use mathlib.Core.List.{List, []}
 use mathlib.Core.Logic.{⊎-elim}
@@ -9,11 +9,11 @@ use borrow.Author.Tests.{ltb-true, ltb-false}
 use denote.Ref.{now}
 use lib.ListN.{length, getD, take, drop, length-drop}
 use lib.Seq.{getD-drop}
-use Rattle.roots.specs.Text.{Digit}
-use Rattle.roots.proofs.Digits.{spells-more, below-more, fits-more, spells-all, spells-none}
+use Rattle.pattern.specs.Text.{Digit}
+use Rattle.pattern.proofs.Digits.{spells-more, below-more, fits-more, spells-all, spells-none}
 use Rattle.io.specs.Digits.{digits}
-use Rattle.roots.proofs.line.hex_at.Statement.{statement}
-use Rattle.roots.proofs.line.hex_at.Tie as tie
+use Rattle.pattern.proofs.inner.hex_at.Statement.{statement}
+use Rattle.pattern.proofs.inner.hex_at.Tie as tie
 
 abbrev Inv-loop : tie.InvT-loop
 Inv-loop text start n₀ i₀ n i = (i ≤ 16) × (n < 16 ^ i) × (digits 16 i n ≡ take i (drop start text))

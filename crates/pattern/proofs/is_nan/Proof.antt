@@ -1,9 +1,9 @@
--- `roots::pattern::is_nan` meets its contract: a NaN's pattern without its sign is above infinity's. Assumes nothing.
+-- `pattern::is_nan` meets its contract: a NaN's pattern without its sign is above infinity's. Assumes nothing.
 use mathlib.Core.Path.{sym}
 use lib.Ieee.{binary64}
 use lib.Ieee.Bits.{nanBits-above}
-use Rattle.roots.proofs.pattern.is_nan.Statement.{statement}
-use Rattle.roots.proofs.pattern.is_nan.Tie as tie
+use Rattle.pattern.proofs.is_nan.Statement.{statement}
+use Rattle.pattern.proofs.is_nan.Tie as tie
 
 returns : tie.Need-returns
 returns c = sym (nanBits-above binary64 (c .args .bits))

@@ -12,7 +12,7 @@ use lib.Dec.{ltb}
 use lib.ListN.{length, getD, take, length-append, List·getD-append}
 use lib.Seq.{getD-at, take-suc, getD-take}
 use Rattle.io.specs.Digits.{glyph, digits}
-use Rattle.roots.specs.Text.{Digit, hexText}
+use Rattle.pattern.specs.Text.{Digit, hexText}
 
 pub glyph-low : (d : ℕ) → d < 10 → glyph d ≡ 48 + d
 glyph-low d h = simp (lt-ltb d 10 h)

@@ -1,8 +1,18 @@
-// Bit patterns of f64s, NaNs' among them: of those `f64::from_bits` and `f64::to_bits` take none.
+// Bit patterns of f64s, NaNs' among them, of which `f64::from_bits` and `f64::to_bits` take none; and
+// patterns as text.
 ghost use mathlib.Core.Path.{_≡_};
 ghost use mathlib.Core.Bool.{true};
 ghost use mathlib.Core.Logic.{_↔_};
 ghost use lib.Ieee.{binary64, ofBits, nanBits};
+ghost use Rattle.pattern.specs.Text.{Digit};
+
+pub mod inner;
+
+// The number that 16 bytes spell in hex digits, if they do.
+pub enum Hex {
+    Number(u64),
+    Other,
+}
 
 // Whether a pattern is a NaN's.
 fn is_nan(bits: u64) -> bool
@@ -29,4 +39,15 @@ pub fn is_of(bits: u64, x: f64) -> bool
         return is_nan(bits);
     }
     f64::to_bits(x) == bits
+}
+
+// The value of the hex digit b, or 16 where b is none.
+pub fn digit(b: u8) -> u64
+    ensures { λ r. ⌜ Digit b r ⌝ }
+{
+    match b {
+        b'0'..=b'9' => (b - b'0') as u64,
+        b'a'..=b'f' => (b - b'a') as u64 + 10,
+        _ => 16,
+    }
 }

@@ -1,12 +1,12 @@
--- `roots::pattern::value` meets its contract: 0 / 0 is the value of every NaN's pattern. Assumes nothing.
+-- `pattern::value` meets its contract: 0 / 0 is the value of every NaN's pattern. Assumes nothing.
 use mathlib.Core.Path.{_≡_, refl, sym, _∙_, subst}
 use mathlib.Core.Bool.{Bool, not}
 use borrow.Author.Needs.{needs}
 use lib.Dec.{T}
 use lib.Ieee.{nan, binary64, div, ofBits}
 use Rattle.binary64.proofs.Bits.{nan-of-bits}
-use Rattle.roots.proofs.pattern.value.Statement.{statement}
-use Rattle.roots.proofs.pattern.value.Tie as tie
+use Rattle.pattern.proofs.value.Statement.{statement}
+use Rattle.pattern.proofs.value.Tie as tie
 
 zero-over-zero : div binary64 (ofBits binary64 0) (ofBits binary64 0) ≡ nan
 unfolding div ofBits

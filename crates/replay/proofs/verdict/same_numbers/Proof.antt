@@ -1,0 +1,65 @@
+-- `replay::verdict::same_numbers` meets its contract. The loop's invariant: the numbers passed are those expected. Assumes nothing.
+use mathlib.Core.Path.{_≡_, sym, subst, _∙_}
+use mathlib.Core.Logic.{⊎-elim}
+use Prim.Native.Nat.{ℕ, _-_, _≤_, _<_}
+use native.Mathlib.Nat.{eq-or-lt-of-le}
+use native.Mathlib.Omega.{arith}
+use lib.ListN.{length, getD}
+use borrow.Author.Needs.{needs}
+use borrow.Author.Tests.{eqb-true}
+use Rattle.replay.proofs.verdict.same_numbers.Statement.{statement}
+use Rattle.replay.proofs.verdict.same_numbers.Tie as tie
+
+abbrev Inv-loop : tie.InvT-loop
+Inv-loop out expected rest i₀ i = (i ≤ length out) × ((j : ℕ) → j < i → getD out j 0 ≡ getD expected j rest)
+
+abbrev μ-loop : tie.MeasureT-loop
+μ-loop out expected rest i₀ i = length out - i
+
+loop-holds : tie.Need-loop-holds Inv-loop μ-loop
+loop-holds c = (omega arith, λ j l. absurd (omega arith))
+
+mul-if1 : tie.Need-mul-if1 Inv-loop μ-loop
+mul-if1 c = search needs
+
+shared-slice-read-if1 : tie.Need-shared-slice-read-if1 Inv-loop μ-loop
+shared-slice-read-if1 c = search needs
+
+expected-at-requires : tie.Need-expected-at-requires Inv-loop μ-loop
+expected-at-requires c κs = search needs
+
+add-i : tie.Need-add-i Inv-loop μ-loop
+add-i c = search needs
+
+loop-less : tie.Need-loop-less Inv-loop μ-loop
+loop-less c = search needs
+
+loop-again : tie.Need-loop-again Inv-loop μ-loop
+loop-again c =
+    let h = c .before .before .before .before in
+    let a = h .before .before .before .args in
+    let here : getD (a .out .now) (h .loop .i) 0 ≡ getD (a .expected .now) (h .loop .i) (a .rest) = eqb-true (getD (a .out .now) (h .loop .i) 0) (c .before .expected-at .result) (c .if1 .taken) ∙ c .before .expected-at .ensures in (
+      omega arith,
+      λ j l.
+          ⊎-elim (λ e. subst (λ (k : ℕ). getD (a .out .now) k 0 ≡ getD (a .expected .now) k (a .rest)) (sym e) here) (h .loop .inv .1 j) (eq-or-lt-of-le (omega arith)),
+    )
+
+returns : tie.Need-returns Inv-loop μ-loop
+returns c =
+    let out = c .before .before .before .before .args .out .now in
+    λ e j l. c .before .loop .inv .1 j (omega (arith, eqb-true (c .before .loop .i) (length out) e))
+
+pub same-numbers-spec : {M : Type 1} → statement M
+same-numbers-spec =
+    tie.close
+    (tie.spec
+    Inv-loop
+    μ-loop
+    loop-holds
+    mul-if1
+    shared-slice-read-if1
+    expected-at-requires
+    add-i
+    loop-less
+    loop-again
+    returns)

@@ -7,7 +7,7 @@ use native.Mathlib.Omega.{arith}
 use lib.Dec.{eqb, leb, ltb}
 use lib.ListN.{length}
 use borrow.Author.Tests.{eqb-true, eqb-false, ltb-true, ltb-false, leb-true, leb-false, not-false}
-use Rattle.mesh.specs.Answers.{orElse, firstOf, pass, at}
+use Rattle.mesh.specs.Answers.{orElse, firstOf, pass, at, shape}
 use Rattle.mesh.specs.Records.{firstAt, secondAt}
 use Rattle.mesh.specs.Search.{someOf, lowestWhere, Names}
 use Rattle.mesh.specs.Checks.{sizeTests, sizesOk, badFace, lowestBadFace, unknownCode, lowestUnknownCode, badLink, NamesBadLink}
@@ -37,6 +37,14 @@ pub nothing-at : (k : ℕ) (f : Found) → at k f ≡ Accepted → f ≡ Nothing
 unfolding at
 nothing-at k Nothing h = refl
 nothing-at k (At i) h = cc
+
+pub shape-accepted : (counts lengths numbers : Bool) → shape counts lengths numbers ≡ Accepted → (counts ≡ true) × (lengths ≡ true) × (numbers ≡ true)
+unfolding shape firstOf
+shape-accepted counts lengths numbers h =
+    let one = both-accepted (pass 1 counts) _ h in
+    let two = both-accepted (pass 2 lengths) _ (one .1) in
+    let three = both-accepted (pass 3 numbers) Accepted (two .1) in
+    (passed 1 counts (one .0), passed 2 lengths (two .0), passed 3 numbers (three .0))
 
 -- ---- each check
 pub small : (n : Counts) → sizesOk n ≡ true → Small n

@@ -14,6 +14,11 @@ use Rattle.mesh.specs.declared.Outcome.{Outcome}
 use Rattle.mesh.specs.declared.Outcome.the-variants.{Value, Bad}
 use Rattle.mesh.specs.declared.Answer.the-variants.{Accepted, Refused}
 
+-- where the items below i are accepted, a refusal at i is that of the whole
+pub refused-at : (g : ℕ → Outcome) (n i k : ℕ) → firstRefusal g i ≡ Accepted → i < n → g i ≡ Bad k → firstRefusal g n ≡ Refused k i
+unfolding firstRefusal after
+refused-at g n i k none h e = le-ind (λ m. firstRefusal g m ≡ Refused k i) (rw (none, e)) (λ m l q. rw q) n h
+
 -- the items below i are accepted, and their values stand in `out`
 pub record Passed (g : ℕ → Outcome) (n : ℕ) (out : List Float) (i : ℕ) : Type 0 where
   pub size : length out ≡ n
@@ -42,7 +47,5 @@ module _ (g : ℕ → Outcome) (n : ℕ) where
       let e : i ≡ n = le-antisymm (p .within) h in
       (rw (← e) (p .none), rw (← e) (sym (take-all i out (omega (arith, p .size))) ∙ p .done))
 
-  -- a refusal at i is that of the whole
   pub stop : (out : List Float) (i k : ℕ) → Passed g n out i → i < n → g i ≡ Bad k → firstRefusal g n ≡ Refused k i
-  unfolding firstRefusal after
-  stop out i k p h e = le-ind (λ m. firstRefusal g m ≡ Refused k i) (rw (p .none, e)) (λ m l q. rw q) n h
+  stop out i k p h e = refused-at g n i k (p .none) h e

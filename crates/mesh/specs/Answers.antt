@@ -33,3 +33,7 @@ orElse (Refused k i) b = Refused k i
 unfoldable pub firstOf : List Answer → Answer
 firstOf [] = Accepted
 firstOf (a ∷ rest) = orElse a (firstOf rest)
+
+-- the checks of shape: 1 of the counts, 2 of the lengths, 3 of the mesh numbers
+unfoldable pub shape : Bool → Bool → Bool → Answer
+shape counts lengths numbers = firstOf (pass 1 counts ∷ pass 2 lengths ∷ pass 3 numbers ∷ [])

@@ -5,6 +5,7 @@ ghost use Prim.Native.Nat.{_*_};
 ghost use lib.Dec.{eqb};
 ghost use lib.ListN.{length, getD, replicate};
 ghost use Rattle.binary64.specs.Numbers.{zero64};
+ghost use Rattle.mesh.specs.Answers.{at, orElse, shape};
 ghost use Rattle.mesh.specs.Records.{firstAt, secondAt, conditionOf};
 ghost use Rattle.mesh.specs.Checks.{sizesOk, lowestBadFace, lowestUnknownCode, NamesBadLink};
 ghost use Rattle.mesh.specs.Chains.{lowestBroken};
@@ -236,6 +237,43 @@ pub fn bad_link(adjacency: &[usize], codes: &[usize]) -> Found
         f += 1;
     }
     Found::Nothing
+}
+
+// The first check of shape that does not pass: 1 of the counts, 2 of the lengths, 3 of the mesh
+// numbers.
+pub fn shape(counts: bool, lengths: bool, numbers: bool) -> Answer
+    ensures { λ r. ⌜ r ≡ shape counts lengths numbers ⌝ }
+{
+    if !counts {
+        return Answer::Refused(1, 0);
+    }
+    if !lengths {
+        return Answer::Refused(2, 0);
+    }
+    if !numbers {
+        return Answer::Refused(3, 0);
+    }
+    Answer::Accepted
+}
+
+// The refusal k at the place that a search found.
+pub fn at(k: u64, f: Found) -> Answer
+    ensures { λ r. ⌜ r ≡ at k f ⌝ }
+{
+    match f {
+        Found::Nothing => Answer::Accepted,
+        Found::At(i) => Answer::Refused(k, i),
+    }
+}
+
+// The first refusal of two answers.
+pub fn or_else(a: Answer, b: Answer) -> Answer
+    ensures { λ r. ⌜ r ≡ orElse a b ⌝ }
+{
+    match a {
+        Answer::Accepted => b,
+        Answer::Refused(k, i) => Answer::Refused(k, i),
+    }
 }
 
 // Every number +0.0.

@@ -13,9 +13,17 @@ use Rattle.mesh.specs.Checks.{sizesOk, lowestBadFace}
 use Rattle.mesh.specs.Facts.{CellsOf}
 use Rattle.mesh.specs.declared.Answer.the-variants.{Accepted}
 use Rattle.mesh.specs.declared.Counts.{Counts}
+use Rattle.mesh.specs.declared.Found.the-variants.{Nothing}
 use Rattle.mesh.proofs.Truth.{and-true}
 use Rattle.mesh.proofs.Facts.{both-accepted, passed, nothing-at, faces-in}
 use Rattle.numerics.specs.Outflow.{outflowChecks, Flows}
+
+-- by the sizes of a mesh of so many cells and faces
+pub flows-by : (cells faces : ℕ) (adjacency : List ℕ) (flux : List Float) (outs : ℕ) → length adjacency ≡ 2 * faces → length flux ≡ faces → outs ≡ cells → lowestBadFace cells adjacency ≡ Nothing → Flows outs adjacency flux
+flows-by cells faces adjacency flux outs a v o none = record {
+  size = omega (arith, a, v);
+  faces = λ f l. subst (λ (k : ℕ). CellsOf k adjacency f) (sym o) (faces-in cells adjacency none f (omega (arith, a, v, l)));
+}
 
 pub flows : (n : Counts) (adjacency : List ℕ) (number : ℕ) (flux : List Float) (outs : ℕ) → outflowChecks n adjacency number flux outs ≡ Accepted → Flows outs adjacency flux × (outs ≡ n .cells)
 unfolding outflowChecks firstOf
@@ -28,10 +36,5 @@ flows n adjacency number flux outs h =
     let own = and-true (eqb (length adjacency) (2 * (n .faces))) (eqb (length flux) (n .faces)) (lengths .0) in
     let a : length adjacency ≡ 2 * (n .faces) = eqb-true _ _ (own .0) in
     let v : length flux ≡ n .faces = eqb-true _ _ (own .1) in
-    let o : outs ≡ n .cells = eqb-true _ _ (lengths .1) in (
-      record {
-        size = omega arith;
-        faces = λ f l. subst (λ (k : ℕ). CellsOf k adjacency f) (sym o) (faces-in (n .cells) adjacency (nothing-at 4 _ (four .0)) f (omega arith));
-      },
-      o,
-    )
+    let o : outs ≡ n .cells = eqb-true _ _ (lengths .1) in
+    (flows-by (n .cells) (n .faces) adjacency flux outs a v o (nothing-at 4 _ (four .0)), o)

@@ -1,7 +1,7 @@
 -- What the checks of a lent stencil and a cell field establish. Assumes nothing.
 use mathlib.Core.Path.{_≡_, sym, _∙_, subst}
 use mathlib.Core.List.{List}
-use mathlib.Core.Bool.{_&&_}
+use mathlib.Core.Bool.{true, _&&_}
 use Prim.Native.Nat.{ℕ, _+_, _*_, _/_, _<_}
 use native.Mathlib.Omega.{arith}
 use lib.Dec.{eqb, leb}
@@ -13,11 +13,28 @@ use Rattle.mesh.specs.Checks.{sizesOk}
 use Rattle.mesh.specs.Chains.{lowestBroken, Chain}
 use Rattle.mesh.specs.declared.Answer.the-variants.{Accepted}
 use Rattle.mesh.specs.declared.Counts.{Counts}
+use Rattle.mesh.specs.declared.Found.the-variants.{Nothing}
 use Rattle.mesh.specs.declared.chain.Form.the-variants.{Single}
 use Rattle.mesh.proofs.Truth.{and-true, every-at}
 use Rattle.mesh.proofs.Facts.{both-accepted, passed, nothing-at, chains-in}
 use Rattle.numerics.specs.Checks.{Slices, lengthsOf, stencilSizes, stencilSized}
 use Rattle.numerics.specs.Gradient.{gradientChecks, Sloped}
+
+-- by the sizes of a stencil of so many cells and records
+pub slopes-by : (cells records : ℕ) (s : Slices) (field : List Float) → stencilSized cells records (lengthsOf s) ≡ true → length field ≡ cells → lowestBroken (cells + 2) (s .equations) Single (s .starts) ≡ Nothing → Sloped s records field
+slopes-by cells records s field sized v none =
+    let w = every-at (eqb (length (s .starts)) cells) (stencilSizes cells records (lengthsOf s)) sized in
+    let b : length (s .starts) ≡ cells = eqb-true _ _ (w .0) in
+    let e : length (s .equations) ≡ 2 * records = eqb-true _ _ (w .1 0) in
+    let i : length (s .inverses) ≡ 9 * cells = eqb-true _ _ (w .1 2) in
+    let half : length (s .equations) / 2 ≡ records = omega arith in
+    record {
+      starts = b ∙ sym v;
+      equations = e;
+      weights = eqb-true _ _ (w .1 1);
+      inverses = omega arith;
+      chains = λ c l. subst (λ (k : ℕ). Chain (s .equations) records (k + 2) (getD (s .starts) c 0)) (sym v) (subst (λ (k : ℕ). Chain (s .equations) k (cells + 2) (getD (s .starts) c 0)) half (chains-in (cells + 2) (s .equations) Single (s .starts) none c (omega arith)));
+    }
 
 pub slopes : (n : Counts) (stencil records : ℕ) (s : Slices) (number : ℕ) (field : List Float) (outs : ℕ) → gradientChecks n stencil records s number field outs ≡ Accepted → Sloped s records field × (length field ≡ n .cells) × (outs ≡ 3 * (n .cells))
 unfolding gradientChecks firstOf
@@ -29,20 +46,5 @@ slopes n stencil records s number field outs h =
     let five = both-accepted (at 5 (lowestBroken (n .cells + 2) (s .equations) Single (s .starts))) Accepted (three .1) in
     let all = and-true (sized && eqb (length field) (n .cells)) (eqb outs (3 * (n .cells))) (passed 2 _ (two .0)) in
     let own = and-true sized (eqb (length field) (n .cells)) (all .0) in
-    let w = every-at (eqb (length (s .starts)) (n .cells)) (stencilSizes (n .cells) records (lengthsOf s)) (own .0) in
     let v : length field ≡ n .cells = eqb-true _ _ (own .1) in
-    let o : outs ≡ 3 * (n .cells) = eqb-true _ _ (all .1) in
-    let b : length (s .starts) ≡ n .cells = eqb-true _ _ (w .0) in
-    let e : length (s .equations) ≡ 2 * records = eqb-true _ _ (w .1 0) in
-    let i : length (s .inverses) ≡ 9 * (n .cells) = eqb-true _ _ (w .1 2) in
-    let half : length (s .equations) / 2 ≡ records = omega arith in (
-      record {
-        starts = b ∙ sym v;
-        equations = e;
-        weights = eqb-true _ _ (w .1 1);
-        inverses = omega arith;
-        chains = λ c l. subst (λ (k : ℕ). Chain (s .equations) records (k + 2) (getD (s .starts) c 0)) (sym v) (subst (λ (k : ℕ). Chain (s .equations) k (n .cells + 2) (getD (s .starts) c 0)) half (chains-in (n .cells + 2) (s .equations) Single (s .starts) (nothing-at 5 _ (five .0)) c (omega arith)));
-      },
-      v,
-      o,
-    )
+    (slopes-by (n .cells) records s field (own .0) v (nothing-at 5 _ (five .0)), v, eqb-true _ _ (all .1))

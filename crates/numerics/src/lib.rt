@@ -12,7 +12,7 @@ use mesh::Found;
 
 pub mod inner;
 
-fn stencil_sized(
+pub fn stencil_sized(
     cells: usize,
     records: usize,
     starts: usize,

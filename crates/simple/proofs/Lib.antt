@@ -1,0 +1,6 @@
+-- Laws of passes with two sequences of refusals, and what the checks of the entries establish.
+pub mod Between
+pub mod Checked
+pub mod Largest
+pub mod Sides
+pub mod Stages

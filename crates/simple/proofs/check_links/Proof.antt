@@ -1,0 +1,55 @@
+-- `simple::check_links` meets its contract.
+use Rattle.simple.specs.Boundary.{links}
+use mathlib.Core.Path.{_∙_}
+use borrow.Author.Needs.{needs}
+use Rattle.simple.proofs.check_links.Statement.{statement}
+use Rattle.simple.proofs.check_links.Tie as tie
+
+lowest-bad-face-requires : tie.Need-lowest-bad-face-requires
+lowest-bad-face-requires c κs = search needs
+
+lowest-unknown-code-requires : tie.Need-lowest-unknown-code-requires
+lowest-unknown-code-requires c κs = search needs
+
+lower-of-requires : tie.Need-lower-of-requires
+lower-of-requires c κs = search needs
+
+at-requires : tie.Need-at-requires
+at-requires c κs = search needs
+
+bad-link-requires : tie.Need-bad-link-requires
+bad-link-requires c κs = search needs
+
+at-requires-2 : tie.Need-at-requires-2
+at-requires-2 c κs = search needs
+
+or-else-requires : tie.Need-or-else-requires
+or-else-requires c κs = search needs
+
+returns : tie.Need-returns
+unfolding links
+returns c =
+    let f : tie.After-lowest-bad-face = search in
+    let u : tie.After-lowest-unknown-code = search in
+    let l : tie.After-lower-of = search in
+    let a : tie.After-at = search in
+    let b : tie.After-bad-link = search in
+    let d : tie.After-at2 = search in
+    record {
+      link = b .bad-link .result;
+      names = b .bad-link .ensures;
+      is = c .or-else .ensures ∙ rw (a .at .ensures, d .at2 .ensures, l .lower-of .ensures, f .lowest-bad-face .ensures, u .lowest-unknown-code .ensures);
+    }
+
+pub check-links-spec : {M : Type 1} → statement M
+check-links-spec =
+    tie.close
+    (tie.spec
+    lowest-bad-face-requires
+    lowest-unknown-code-requires
+    lower-of-requires
+    at-requires
+    bad-link-requires
+    at-requires-2
+    or-else-requires
+    returns)

@@ -1,0 +1,37 @@
+-- `simple::inner::diagonal::momentum_inverse_diagonal` meets its contract.
+use Rattle.simple.proofs.Stages.{handed}
+use Rattle.simple.specs.Diagonal.{inverses}
+use Rattle.mesh.specs.Pass.{handedOut}
+use denote.Ref.{now}
+use lib.ListN.{length}
+use Prim.Native.Nat.{ℕ}
+use mathlib.Core.Path.{_≡_, sym, _∙_, ap}
+use borrow.Author.Needs.{needs}
+use Rattle.simple.proofs.inner.diagonal.momentum_inverse_diagonal.Statement.{statement}
+use Rattle.simple.proofs.inner.diagonal.momentum_inverse_diagonal.Tie as tie
+
+invert-requires : tie.Need-invert-requires
+invert-requires c κs = search needs
+
+settle-requires : tie.Need-settle-requires
+settle-requires c κs = search needs
+
+same-length : tie.Need-same-length
+same-length c = search needs
+
+returns : tie.Need-returns
+returns c =
+    let s : tie.Start = search in
+    let i : tie.After-invert = search in
+    let t : tie.After-settle = search in
+    let n : length (i .invert .last .1 .0) ≡ length (now (s .args .diagonal)) = i .invert .kept .1 .0 ∙ s .pre in (
+      t .settle .ensures .0 ∙ i .invert .ensures .0,
+      rw (t .settle .ensures .0)
+          (t .settle .ensures .1
+          ∙ ap (λ (k : ℕ). handedOut (i .invert .result) k (i .invert .last .1 .0)) n
+          ∙ handed (i .invert .result) (length (now (s .args .diagonal))) (inverses (now (s .args .diagonal))) (i .invert .last .1 .0) (i .invert .ensures .1)),
+    )
+
+pub momentum-inverse-diagonal-spec : {M : Type 1} → statement M
+momentum-inverse-diagonal-spec =
+    tie.close (tie.spec invert-requires settle-requires same-length returns)

@@ -1,0 +1,126 @@
+-- `simple::inner::prediction::predict` meets its contract: below f no coefficient refuses, and a is the first refusal of a flux.
+use Rattle.simple.proofs.Stages.{Both, start, more, stop, finish}
+use Rattle.simple.specs.Prediction.{flow, predictedAt}
+use Rattle.simple.specs.Grid.{grid}
+use Rattle.simple.specs.Coefficients.{internalAt}
+use Rattle.mesh.specs.declared.Outcome.{Outcome}
+use denote.Ref.{now}
+use lib.ListN.{length}
+use native.Mathlib.Omega.{arith}
+use Prim.Native.Nat.{ℕ, _-_}
+use mathlib.Core.Path.{_≡_, refl, sym, _∙_}
+use Rattle.simple.proofs.inner.prediction.predict.Statement.{statement}
+use Rattle.simple.proofs.inner.prediction.predict.Tie as tie
+
+abbrev Inv-loop : tie.InvT-loop
+Inv-loop adjacency geometry places velocity pressure gradient responses walls out₀ a₀ f₀ out a f = Both (internalAt (grid adjacency geometry places) responses) (predictedAt (grid adjacency geometry places) (flow velocity pressure gradient responses) walls) (length walls) out a f
+
+abbrev μ-loop : tie.MeasureT-loop
+μ-loop adjacency geometry places velocity pressure gradient responses walls out₀ a₀ f₀ out a f = length walls - f
+
+-- what each face comes to, in the two sequences
+abbrev firstAt : tie.Start Inv-loop μ-loop → ℕ → Outcome
+firstAt s = internalAt (grid (now (s .args .adjacency)) (now (s .args .geometry)) (now (s .args .places))) (now (s .args .responses))
+
+abbrev secondAt : tie.Start Inv-loop μ-loop → ℕ → Outcome
+secondAt s = predictedAt (grid (now (s .args .adjacency)) (now (s .args .geometry)) (now (s .args .places))) (flow (now (s .args .velocity)) (now (s .args .pressure)) (now (s .args .gradient)) (now (s .args .responses))) (now (s .args .walls))
+
+-- the places of a turn, found from the test of the stage
+abbrev startAt : tie.After-is-early Inv-loop μ-loop → tie.Start Inv-loop μ-loop
+startAt c = search
+
+abbrev turnAt : tie.After-is-early Inv-loop μ-loop → tie.In-loop Inv-loop μ-loop
+turnAt c = search
+
+abbrev stageAt : tie.After-is-early Inv-loop μ-loop → tie.After-stage-at Inv-loop μ-loop
+stageAt c = search
+
+loop-holds : tie.Need-loop-holds Inv-loop μ-loop
+loop-holds c =
+    let s : tie.Start Inv-loop μ-loop = search in
+    start (firstAt s) (secondAt s) (length (now (s .args .walls))) (now (s .args .out)) (s .pre .1)
+
+stage-at-requires : tie.Need-stage-at-requires Inv-loop μ-loop
+stage-at-requires c κs =
+    let s : tie.Start Inv-loop μ-loop = search in
+    let l : tie.In-loop Inv-loop μ-loop = search in
+    (s .pre .0, l .loop-test .taken)
+
+is-early-requires : tie.Need-is-early-requires Inv-loop μ-loop
+is-early-requires c κs = tt
+
+early-number-requires : tie.Need-early-number-requires Inv-loop μ-loop
+early-number-requires c κs = tt
+
+same-length : tie.Need-same-length Inv-loop μ-loop
+same-length c =
+    let s : tie.Start Inv-loop μ-loop = search in
+    let l : tie.In-loop Inv-loop μ-loop = search in
+    l .before .loop .inv .size ∙ sym (s .pre .1)
+
+returns : tie.Need-returns Inv-loop μ-loop
+returns c =
+    let t : tie.Then1 Inv-loop μ-loop = search in
+    let y : tie.After-is-early Inv-loop μ-loop = search in
+    let k : tie.After-early-number Inv-loop μ-loop = search in
+    let s = startAt y in
+    let l = turnAt y in
+    let v = stageAt y in
+    let no = stop (firstAt s) (secondAt s) (length (now (s .args .walls))) (l .before .loop .out) (l .before .loop .a) (l .before .loop .f) (v .stage-at .result) (v .stage-at .ensures) (sym (y .is-early .ensures) ∙ t .if1 .taken) (l .before .loop .inv) (l .loop-test .taken) in
+    (rw (k .early-number .ensures) (sym no), λ e. cc)
+
+keep-requires : tie.Need-keep-requires Inv-loop μ-loop
+keep-requires c κs =
+    let l : tie.In-loop Inv-loop μ-loop = search in
+    omega (arith, l .loop-test .taken, l .before .loop .inv .size)
+
+add-f : tie.Need-add-f Inv-loop μ-loop
+add-f c =
+    let l : tie.In-loop Inv-loop μ-loop = search in
+    omega (arith, l .loop-test .taken)
+
+loop-less : tie.Need-loop-less Inv-loop μ-loop
+loop-less c =
+    let l : tie.In-loop Inv-loop μ-loop = search in
+    omega (arith, l .loop-test .taken)
+
+loop-again : tie.Need-loop-again Inv-loop μ-loop
+loop-again c =
+    let d : tie.Else1 Inv-loop μ-loop = search in
+    let y : tie.After-is-early Inv-loop μ-loop = search in
+    let k : tie.After-keep Inv-loop μ-loop = search in
+    let s = startAt y in
+    let l = turnAt y in
+    let v = stageAt y in
+    rw (k .keep .ensures .0, k .keep .ensures .1)
+    (more (firstAt s) (secondAt s) (length (now (s .args .walls))) (l .before .loop .out) (l .before .loop .a) (l .before .loop .f) (v .stage-at .result) (v .stage-at .ensures) (sym (y .is-early .ensures) ∙ d .if1 .left) (l .before .loop .inv) (l .loop-test .taken))
+
+same-length-2 : tie.Need-same-length-2 Inv-loop μ-loop
+same-length-2 c =
+    let s : tie.Start Inv-loop μ-loop = search in
+    c .before .loop .inv .size ∙ sym (s .pre .1)
+
+returns-2 : tie.Need-returns-2 Inv-loop μ-loop
+returns-2 c =
+    let s : tie.Start Inv-loop μ-loop = search in
+    let w = finish (firstAt s) (secondAt s) (length (now (s .args .walls))) (c .before .loop .out) (c .before .loop .a) (c .before .loop .f) (c .before .loop .inv) (c .loop-test .left) in
+    (sym (w .0), w .1)
+
+pub predict-spec : {M : Type 1} → statement M
+predict-spec =
+    tie.close
+    (tie.spec
+    Inv-loop
+    μ-loop
+    loop-holds
+    stage-at-requires
+    is-early-requires
+    early-number-requires
+    same-length
+    returns
+    keep-requires
+    add-f
+    loop-less
+    loop-again
+    same-length-2
+    returns-2)

@@ -1,0 +1,8 @@
+// The work of the entries, for callers that have made the checks.
+pub mod boundary;
+pub mod coefficients;
+pub mod diagonal;
+pub mod metrics;
+pub mod prediction;
+pub mod stage;
+pub mod velocity;

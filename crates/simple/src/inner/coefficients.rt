@@ -1,0 +1,106 @@
+// The coefficients of the faces with two cells.
+ghost use mathlib.Core.Path.{_≡_};
+ghost use Prim.Native.Nat.{_+_, _*_, _-_, _<_};
+ghost use lib.ListN.{length, getD};
+ghost use lib.Ieee.{nan};
+ghost use Rattle.mesh.specs.Pass.{handedOut};
+ghost use Rattle.coupling.specs.Face.{pair};
+ghost use Rattle.simple.specs.Coefficients.{internalAt, coefficientAnswer, coefficients};
+ghost use Rattle.simple.specs.Grid.{grid, spanOf, Coupled};
+ghost use Rattle.simple.specs.Staged.{Passes};
+use crate::inner::stage::settle;
+use coupling::Pair;
+use coupling::Span;
+use mesh::Answer;
+use mesh::Face;
+use mesh::Outcome;
+use mesh::Vec3;
+
+// A face with its owner's centre, and a centre on its other side.
+pub fn span_to(face: Face, places: &[f64], other: Vec3) -> Span
+    requires { ⌜ 4 * (face .owner) + 3 < length (now places) ⌝ }
+    ensures { λ r. ⌜ r ≡ spanOf face (now (places .entry)) other ⌝ }
+{
+    let cell = mesh::inner::cell_at(places, face.owner);
+    let center = face.center;
+    let area = face.area;
+    let owner = cell.center;
+    Span {
+        center,
+        area,
+        owner,
+        other,
+    }
+}
+
+// The numbers of a field in two cells.
+pub fn pair_at(field: &[f64], owner: usize, other: usize) -> Pair
+    requires { ⌜ (owner < length (now field)) × (other < length (now field)) ⌝ }
+    ensures { λ r. ⌜ r ≡ pair (getD (now (field .entry)) owner nan) (getD (now (field .entry)) other nan) ⌝ }
+{
+    Pair {
+        owner: field[owner],
+        other: field[other],
+    }
+}
+
+// The coefficient of the face f.
+pub fn internal_at(
+    adjacency: &[usize],
+    geometry: &[f64],
+    places: &[f64],
+    responses: &[f64],
+    faces: usize,
+    f: usize,
+) -> Outcome
+    requires { ⌜ Coupled (grid (now adjacency) (now geometry) (now places)) (length (now responses)) faces ⌝ }
+    requires { ⌜ f < faces ⌝ }
+    ensures { λ r. ⌜ r ≡ internalAt (grid (now (adjacency .entry)) (now (geometry .entry)) (now (places .entry))) (now (responses .entry)) f ⌝ }
+{
+    let face = mesh::inner::face_at(adjacency, geometry, f);
+    if face.neighbour == 0 {
+        return Outcome::Value(0.0);
+    }
+    let n = face.neighbour - 1;
+    let other = mesh::inner::cell_at(places, n);
+    let span = span_to(face, places, other.center);
+    let r = pair_at(responses, face.owner, n);
+    coupling::internal_coefficient(span, coupling::distances(span), r)
+}
+
+// Writes the coefficients up to the first refusal.
+fn fill(
+    adjacency: &[usize],
+    geometry: &[f64],
+    places: &[f64],
+    responses: &[f64],
+    out: &mut [f64],
+) -> Answer
+    requires { ⌜ Coupled (grid (now adjacency) (now geometry) (now places)) (length (now responses)) (length (now out)) ⌝ }
+    ensures { λ r. ⌜ Passes (coefficientAnswer (grid (now (adjacency .entry)) (now (geometry .entry)) (now (places .entry))) (now (responses .entry)) (length (now (out .entry)))) (coefficients (grid (now (adjacency .entry)) (now (geometry .entry)) (now (places .entry))) (now (responses .entry)) (length (now (out .entry)))) r (now (out .exit)) ⌝ }
+{
+    let mut f = 0;
+    while f < out.len() {
+        match internal_at(adjacency, geometry, places, responses, out.len(), f) {
+            Outcome::Value(v) => out[f] = v,
+            Outcome::Bad(k) => return Answer::Refused(k, f),
+        }
+        f += 1;
+    }
+    Answer::Accepted
+}
+
+pub fn pressure_face_coefficients(
+    adjacency: &[usize],
+    geometry: &[f64],
+    places: &[f64],
+    responses: &[f64],
+    out: &mut [f64],
+) -> Answer
+    requires { ⌜ Coupled (grid (now adjacency) (now geometry) (now places)) (length (now responses)) (length (now out)) ⌝ }
+    ensures { λ r. ⌜ r ≡ coefficientAnswer (grid (now (adjacency .entry)) (now (geometry .entry)) (now (places .entry))) (now (responses .entry)) (length (now (out .entry))) ⌝ }
+    ensures { λ r. ⌜ now (out .exit) ≡ handedOut r (length (now (out .entry))) (coefficients (grid (now (adjacency .entry)) (now (geometry .entry)) (now (places .entry))) (now (responses .entry)) (length (now (out .entry)))) ⌝ }
+{
+    let a = fill(adjacency, geometry, places, responses, out);
+    settle(out, a)
+}

@@ -3,12 +3,20 @@
 ghost use mathlib.Core.Path.{_≡_};
 ghost use lib.ListN.{length};
 ghost use Rattle.binary64.specs.Root.{root};
+ghost use Rattle.mesh.specs.Answers.{orElse};
 ghost use Rattle.mesh.specs.Mesh.{mesh, conditions};
-ghost use Rattle.mesh.specs.Pass.{unless};
+ghost use Rattle.mesh.specs.Pass.{handedOut, unless};
 ghost use Rattle.mesh.specs.declared.Answer.{Answer};
 ghost use Rattle.numerics.specs.Checks.{slices, StencilCall};
 ghost use Rattle.numerics.specs.Gradient.{gradients, gradientChecks};
 ghost use Rattle.numerics.specs.Outflow.{outflows, outflowChecks};
+ghost use Rattle.simple.specs.Boundary.{BoundaryCall};
+ghost use Rattle.simple.specs.Coefficients.{coefficientChecks, coefficientAnswer, coefficients};
+ghost use Rattle.simple.specs.Diagonal.{diagonalChecks, inverseAnswer, inverses};
+ghost use Rattle.simple.specs.Grid.{grid, field};
+ghost use Rattle.simple.specs.Metrics.{MetricsCall};
+ghost use Rattle.simple.specs.Prediction.{lent, PredictionCall};
+ghost use Rattle.simple.specs.Velocity.{velocityChecks, velocityAnswer, correctedVelocities};
 ghost use Rattle.capi.specs.Told.{numberOf, indexOf, Told};
 use mesh::Answer;
 use mesh::Counts;
@@ -128,6 +136,182 @@ pub extern "C" fn juvandeer_integrated_divergence(
     ensures { λ r. ⌜ Told (λ (a : Answer). (a ≡ outflowChecks counts (now (adjacency .entry)) number (now (flux .entry)) (length (now (out .entry)))) × (now (out .exit) ≡ unless a (now (out .entry)) (outflows (counts .cells) (now (adjacency .entry)) (now (flux .entry))))) r (now (index .exit)) ⌝ }
 {
     let a = numerics::integrated_divergence(counts, adjacency, number, flux, out);
+    *index = index_of(a);
+    number_of(a)
+}
+
+// `simple::momentum_inverse_diagonal`.
+#[no_mangle]
+pub extern "C" fn juvandeer_momentum_inverse_diagonal(
+    counts: Counts,
+    diagonal: &[f64],
+    out: &mut [f64],
+    index: &mut usize,
+) -> u64
+    ensures { λ r. ⌜ Told (λ (a : Answer). (a ≡ orElse (diagonalChecks counts (now (diagonal .entry)) (length (now (out .entry)))) (inverseAnswer (now (diagonal .entry)))) × (now (out .exit) ≡ unless (diagonalChecks counts (now (diagonal .entry)) (length (now (out .entry)))) (now (out .entry)) (handedOut a (counts .cells) (inverses (now (diagonal .entry)))))) r (now (index .exit)) ⌝ }
+{
+    let a = simple::momentum_inverse_diagonal(counts, diagonal, out);
+    *index = index_of(a);
+    number_of(a)
+}
+
+// `simple::pressure_face_coefficients`.
+#[no_mangle]
+pub extern "C" fn juvandeer_pressure_face_coefficients(
+    counts: Counts,
+    adjacency: &[usize],
+    geometry: &[f64],
+    places: &[f64],
+    response: u64,
+    responses: &[f64],
+    out: &mut [f64],
+    index: &mut usize,
+) -> u64
+    ensures { λ r. ⌜ Told (λ (a : Answer). (a ≡ orElse (coefficientChecks counts (grid (now (adjacency .entry)) (now (geometry .entry)) (now (places .entry))) (field response (now (responses .entry))) (length (now (out .entry)))) (coefficientAnswer (grid (now (adjacency .entry)) (now (geometry .entry)) (now (places .entry))) (now (responses .entry)) (counts .faces))) × (now (out .exit) ≡ unless (coefficientChecks counts (grid (now (adjacency .entry)) (now (geometry .entry)) (now (places .entry))) (field response (now (responses .entry))) (length (now (out .entry)))) (now (out .entry)) (handedOut a (counts .faces) (coefficients (grid (now (adjacency .entry)) (now (geometry .entry)) (now (places .entry))) (now (responses .entry)) (counts .faces))))) r (now (index .exit)) ⌝ }
+{
+    let a = simple::pressure_face_coefficients(
+        counts,
+        adjacency,
+        geometry,
+        places,
+        response,
+        responses,
+        out,
+    );
+    *index = index_of(a);
+    number_of(a)
+}
+
+// `simple::pressure_face_coefficients_with_boundary`.
+#[no_mangle]
+pub extern "C" fn juvandeer_pressure_face_coefficients_with_boundary(
+    counts: Counts,
+    adjacency: &[usize],
+    geometry: &[f64],
+    places: &[f64],
+    number: u64,
+    codes: &[usize],
+    values: &[f64],
+    response: u64,
+    responses: &[f64],
+    out: &mut [f64],
+    index: &mut usize,
+) -> u64
+    ensures { λ r. ⌜ Told (λ (a : Answer). BoundaryCall counts (grid (now (adjacency .entry)) (now (geometry .entry)) (now (places .entry))) (conditions number (now (codes .entry)) (now (values .entry))) (field response (now (responses .entry))) (now (out .entry)) a (now (out .exit))) r (now (index .exit)) ⌝ }
+{
+    let a = simple::pressure_face_coefficients_with_boundary(
+        counts,
+        adjacency,
+        geometry,
+        places,
+        number,
+        codes,
+        values,
+        response,
+        responses,
+        out,
+    );
+    *index = index_of(a);
+    number_of(a)
+}
+
+// `simple::rhie_chow_predicted_flux`.
+#[no_mangle]
+pub extern "C" fn juvandeer_rhie_chow_predicted_flux(
+    counts: Counts,
+    adjacency: &[usize],
+    geometry: &[f64],
+    places: &[f64],
+    stencil: u64,
+    records: usize,
+    starts: &[usize],
+    equations: &[usize],
+    weights: &[f64],
+    inverses: &[f64],
+    velocity: u64,
+    velocities: &[f64],
+    pressure: u64,
+    pressures: &[f64],
+    response: u64,
+    responses: &[f64],
+    wall: u64,
+    walls: &[f64],
+    gradient: &mut [f64],
+    out: &mut [f64],
+    index: &mut usize,
+) -> u64
+    ensures { λ r. ⌜ Told (λ (a : Answer). PredictionCall counts (grid (now (adjacency .entry)) (now (geometry .entry)) (now (places .entry))) stencil records (slices (now (starts .entry)) (now (equations .entry)) (now (weights .entry)) (now (inverses .entry))) (lent (field velocity (now (velocities .entry))) (field pressure (now (pressures .entry))) (field response (now (responses .entry))) (field wall (now (walls .entry)))) (now (gradient .entry)) (now (out .entry)) a (now (gradient .exit)) (now (out .exit))) r (now (index .exit)) ⌝ }
+{
+    let a = simple::rhie_chow_predicted_flux(
+        counts,
+        adjacency,
+        geometry,
+        places,
+        stencil,
+        records,
+        starts,
+        equations,
+        weights,
+        inverses,
+        velocity,
+        velocities,
+        pressure,
+        pressures,
+        response,
+        responses,
+        wall,
+        walls,
+        gradient,
+        out,
+    );
+    *index = index_of(a);
+    number_of(a)
+}
+
+// `simple::correct_cell_velocity_from_gradient`.
+#[no_mangle]
+pub extern "C" fn juvandeer_correct_cell_velocity_from_gradient(
+    counts: Counts,
+    velocity: u64,
+    velocities: &[f64],
+    response: u64,
+    responses: &[f64],
+    gradient: u64,
+    gradients: &[f64],
+    out: &mut [f64],
+    index: &mut usize,
+) -> u64
+    ensures { λ r. ⌜ Told (λ (a : Answer). (a ≡ orElse (velocityChecks counts (field velocity (now (velocities .entry))) (field response (now (responses .entry))) (field gradient (now (gradients .entry))) (length (now (out .entry)))) (velocityAnswer (now (velocities .entry)) (now (responses .entry)) (now (gradients .entry)))) × (now (out .exit) ≡ unless (velocityChecks counts (field velocity (now (velocities .entry))) (field response (now (responses .entry))) (field gradient (now (gradients .entry))) (length (now (out .entry)))) (now (out .entry)) (handedOut a (length (now (out .entry))) (correctedVelocities (now (velocities .entry)) (now (responses .entry)) (now (gradients .entry)))))) r (now (index .exit)) ⌝ }
+{
+    let a = simple::correct_cell_velocity_from_gradient(
+        counts,
+        velocity,
+        velocities,
+        response,
+        responses,
+        gradient,
+        gradients,
+        out,
+    );
+    *index = index_of(a);
+    number_of(a)
+}
+
+// `simple::continuity_metrics`.
+#[no_mangle]
+pub extern "C" fn juvandeer_continuity_metrics(
+    counts: Counts,
+    adjacency: &[usize],
+    places: &[f64],
+    number: u64,
+    flux: &[f64],
+    outflow: &mut [f64],
+    metrics: &mut [f64],
+    index: &mut usize,
+) -> u64
+    ensures { λ r. ⌜ Told (λ (a : Answer). MetricsCall counts (now (adjacency .entry)) (now (places .entry)) (field number (now (flux .entry))) (now (outflow .entry)) (now (metrics .entry)) a (now (outflow .exit)) (now (metrics .exit))) r (now (index .exit)) ⌝ }
+{
+    let a = simple::continuity_metrics(counts, adjacency, places, number, flux, outflow, metrics);
     *index = index_of(a);
     number_of(a)
 }

@@ -1,11 +1,14 @@
 // Makes the calls of a list again, which stands on standard input, and writes how many agree with
 // it and how many differ. The list is what `oracle list` makes; `oracle/README.md` gives its layout. Of the
-// calls those of the entries of `numerics` are made, and the roots are taken by `binary64::sqrt`.
+// calls those of the entries of `numerics` and of `simple` are made, and the roots are taken by
+// `binary64::sqrt`.
+use crate::tally::PLACES;
 use libc::STDIN_FILENO;
 use libc::STDOUT_FILENO;
 
 mod blocks;
 mod calls;
+mod lent;
 mod tally;
 mod text;
 mod verdict;
@@ -49,7 +52,7 @@ fn replayed(words: &[usize], floats: &[f64], lines: &[u64], n: usize) {
     if n == NOWHERE {
         return;
     }
-    let mut tally = [0; 9];
+    let mut tally = [0; PLACES];
     if walk::walked(words::part(words, 0, n), floats, lines, &mut tally) {
         tally::print_tally(&tally);
     }

@@ -4,19 +4,18 @@ use crate::more;
 use crate::print_broken;
 use libc::STDOUT_FILENO;
 
-// How many agree and, in the next place, how many differ, of the roots and of each entry's calls;
-// last, how many calls are not made again.
-pub type Tally = [usize; 9];
+// How many agree, at twice the kind, and how many differ, in the next place, of the roots and of
+// each kind of call; the kinds are those of the list's blocks. At OTHERS, how many calls are not
+// made again.
+pub type Tally = [usize; PLACES];
 
-pub const ROOTS: usize = 0;
+const KINDS: usize = 27;
 
-pub const STENCILS: usize = 2;
+pub const PLACES: usize = 2 * KINDS;
 
-pub const GRADIENTS: usize = 4;
+pub const ROOTS: usize = 3;
 
-pub const OUTFLOWS: usize = 6;
-
-pub const OTHERS: usize = 8;
+const OTHERS: usize = 0;
 
 fn print_different(line: u64) {
     io::write_all(STDOUT_FILENO, b"line ");
@@ -24,51 +23,65 @@ fn print_different(line: u64) {
     io::write_all(STDOUT_FILENO, b": differs\n");
 }
 
-fn print_pair(name: &[u8], agree: usize, differ: usize) {
+// Where those that agree of a kind are counted.
+fn place(kind: usize) -> usize {
+    if kind < KINDS {
+        return 2 * kind;
+    }
+    OTHERS
+}
+
+fn counted(tally: &Tally, i: usize) -> usize {
+    if i < PLACES {
+        return tally[i];
+    }
+    0
+}
+
+fn print_kind(tally: &Tally, kind: usize, name: &[u8]) {
+    let i = place(kind);
     io::write_all(STDOUT_FILENO, name);
     io::write_all(STDOUT_FILENO, b": ");
-    io::print_decimal(STDOUT_FILENO, agree as u64);
+    io::print_decimal(STDOUT_FILENO, counted(tally, i) as u64);
     io::write_all(STDOUT_FILENO, b" agree, ");
-    io::print_decimal(STDOUT_FILENO, differ as u64);
+    io::print_decimal(STDOUT_FILENO, counted(tally, more(i)) as u64);
     io::write_all(STDOUT_FILENO, b" differ\n");
 }
 
 pub fn print_tally(tally: &Tally) {
-    print_pair(b"roots", tally[ROOTS], tally[ROOTS + 1]);
-    print_pair(
-        b"least_squares_stencil",
-        tally[STENCILS],
-        tally[STENCILS + 1],
-    );
-    print_pair(
-        b"least_squares_gradient",
-        tally[GRADIENTS],
-        tally[GRADIENTS + 1],
-    );
-    print_pair(
-        b"integrated_divergence",
-        tally[OUTFLOWS],
-        tally[OUTFLOWS + 1],
-    );
+    print_kind(tally, ROOTS, b"roots");
+    print_kind(tally, 16, b"momentum_inverse_diagonal");
+    print_kind(tally, 17, b"least_squares_stencil");
+    print_kind(tally, 18, b"least_squares_gradient");
+    print_kind(tally, 19, b"pressure_face_coefficients");
+    print_kind(tally, 20, b"pressure_face_coefficients_with_boundary");
+    print_kind(tally, 21, b"rhie_chow_predicted_flux");
+    print_kind(tally, 23, b"correct_cell_velocity_from_gradient");
+    print_kind(tally, 24, b"integrated_divergence");
+    print_kind(tally, 25, b"continuity_metrics");
     io::write_all(STDOUT_FILENO, b"calls not replayed: ");
     io::print_decimal(STDOUT_FILENO, tally[OTHERS] as u64);
     io::write_all(STDOUT_FILENO, b"\n");
 }
 
-pub fn count(tally: &mut Tally, i: usize) {
-    if i < 9 {
+fn count(tally: &mut Tally, i: usize) {
+    if i < PLACES {
         tally[i] = more(tally[i]);
     }
+}
+
+pub fn count_other(tally: &mut Tally) {
+    count(tally, OTHERS);
 }
 
 // Tallies an outcome, and writes the line where a different or a broken one starts. Answers
 // whether it is not broken.
 pub fn tallied(tally: &mut Tally, kind: usize, line: u64, o: Outcome) -> bool {
     match o {
-        Outcome::Agrees => count(tally, kind),
+        Outcome::Agrees => count(tally, place(kind)),
         Outcome::Differs => {
             print_different(line);
-            count(tally, more(kind));
+            count(tally, more(place(kind)));
         }
         Outcome::Broken => {
             print_broken(line);

@@ -3,16 +3,13 @@ use crate::NOWHERE;
 use crate::blocks::conditions_at;
 use crate::blocks::mesh_at;
 use crate::calls;
+use crate::calls::Call;
 use crate::calls::Outcome;
 use crate::calls::compared;
 use crate::print_broken;
-use crate::tally::GRADIENTS;
-use crate::tally::OTHERS;
-use crate::tally::OUTFLOWS;
 use crate::tally::ROOTS;
-use crate::tally::STENCILS;
 use crate::tally::Tally;
-use crate::tally::count;
+use crate::tally::count_other;
 use crate::tally::tallied;
 use crate::words::skip;
 use crate::words::word;
@@ -70,28 +67,15 @@ fn made(words: &[usize], floats: &[f64], w: Walk, kind: usize, at: usize, end: u
     if w.mesh == NOWHERE || w.conditions == NOWHERE {
         return Outcome::Broken;
     }
-    let m = mesh_at(words, w.mesh);
-    match kind {
-        17 => calls::stencil(
-            words,
-            floats,
-            m,
-            conditions_at(words, w.conditions),
-            at,
-            end,
-        ),
-        18 => calls::gradient(words, floats, m, at, end),
-        _ => calls::outflow(words, floats, m, at, end),
-    }
-}
-
-// Where the calls of a kind are tallied.
-fn row(kind: usize) -> usize {
-    match kind {
-        17 => STENCILS,
-        18 => GRADIENTS,
-        _ => OUTFLOWS,
-    }
+    let mesh = mesh_at(words, w.mesh);
+    let conditions = conditions_at(words, w.conditions);
+    let c = Call {
+        kind,
+        mesh,
+        conditions,
+        at,
+    };
+    calls::made(words, floats, c, end)
 }
 
 // Answers whether a block is whole, and writes its line where it is not.
@@ -119,18 +103,11 @@ fn taken(
         1 => is_whole(mesh_at(words, at).end == end, line),
         2 => is_whole(conditions_at(words, at).end == end, line),
         3 => { is_whole(n % 2 == 0, line) && roots(words, floats, lines, at, n / 2, tally) }
-        17 | 18 | 24 => {
-            tallied(
-                tally,
-                row(kind),
-                line,
-                made(words, floats, w, kind, at, end),
-            )
-        }
-        16..=26 => {
-            count(tally, OTHERS);
+        22 | 26 => {
+            count_other(tally);
             true
         }
+        16..=25 => { tallied(tally, kind, line, made(words, floats, w, kind, at, end)) }
         _ => is_whole(false, line),
     }
 }

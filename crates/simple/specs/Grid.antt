@@ -43,9 +43,6 @@ faceArea m f = vectorAt (m .geometry) (9 * f + 3)
 abbrev pub centre : Grid → ℕ → Vec3
 centre m c = vectorAt (m .places) (4 * c)
 
-abbrev pub volume : Grid → ℕ → Float
-volume m c = getD (m .places) (4 * c + 3) nan
-
 -- the face f, with a centre on its other side
 abbrev pub spanOf : Face → List Float → Vec3 → Span
 spanOf face places other = record { center = face .center; area = face .area; owner = vectorAt places (4 * (face .owner)); other = other }

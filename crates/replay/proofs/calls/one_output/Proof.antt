@@ -1,12 +1,9 @@
--- `replay::calls::gradient` is safe: the part of the output has the length that is asked for. Assumes nothing.
+-- `replay::calls::one_output` is safe: the part of the output has the length that is asked for. Assumes nothing.
 use mathlib.Core.Path.{sym}
 use lib.Seq.{length-take-le}
 use borrow.Author.Needs.{needs}
-use Rattle.replay.proofs.calls.gradient.Statement.{statement}
-use Rattle.replay.proofs.calls.gradient.Tie as tie
-
-after-gradient-lent-requires : tie.Need-after-gradient-lent-requires
-after-gradient-lent-requires c κs = search needs
+use Rattle.replay.proofs.calls.one_output.Statement.{statement}
+use Rattle.replay.proofs.calls.one_output.Tie as tie
 
 word-requires : tie.Need-word-requires
 word-requires c κs = search needs
@@ -35,11 +32,11 @@ value-requires c κs = search needs
 array-borrow-prefix-out : tie.Need-array-borrow-prefix-out
 array-borrow-prefix-out c = search needs
 
-slice-aggregate-gradient-agrees : tie.Need-slice-aggregate-gradient-agrees
-slice-aggregate-gradient-agrees c = sym (length-take-le _ _ (search needs))
+slice-aggregate-one-agrees : tie.Need-slice-aggregate-one-agrees
+slice-aggregate-one-agrees c = sym (length-take-le _ _ (search needs))
 
-gradient-agrees-requires : tie.Need-gradient-agrees-requires
-gradient-agrees-requires c κs = search needs
+one-agrees-requires : tie.Need-one-agrees-requires
+one-agrees-requires c κs = search needs
 
 compared-requires : tie.Need-compared-requires
 compared-requires c κs = search needs
@@ -47,11 +44,10 @@ compared-requires c κs = search needs
 returns-3 : tie.Need-returns-3
 returns-3 c = search needs
 
-pub gradient-spec : {M : Type 1} → statement M
-gradient-spec =
+pub one-output-spec : {M : Type 1} → statement M
+one-output-spec =
     tie.close
     (tie.spec
-    after-gradient-lent-requires
     word-requires
     skip-requires
     verdict-at-requires
@@ -61,7 +57,7 @@ gradient-spec =
     returns-2
     value-requires
     array-borrow-prefix-out
-    slice-aggregate-gradient-agrees
-    gradient-agrees-requires
+    slice-aggregate-one-agrees
+    one-agrees-requires
     compared-requires
     returns-3)

@@ -10,7 +10,7 @@ use lib.Ieee.{Float, Format, binary64, prec, add, ofBits, fits}
 use lib.Ieee.Scale.{finite}
 use Rattle.binary64.specs.Root.{rootIn}
 use Rattle.binary64.specs.Units.{count, units, total, exactTotal, totalCount, AllFit}
-use Rattle.binary64.specs.Laws.{Addition, Summation, OppositeSums, OppositeDifferences, SwappedDifferences, NegatedProducts, OppositeProducts, FitsKept, RootIsNearest}
+use Rattle.binary64.specs.Laws.{Addition, Summation, OppositeSums, OppositeDifferences, SwappedDifferences, NegatedProducts, OppositeProducts, FitsKept, RootIsNearest, RootsOfSquares}
 use Rattle.binary64.specs.Examples.{Roots}
 use Rattle.binary64.proofs.Addition.{add-law}
 use Rattle.binary64.proofs.Summation.{zero, total-finite, total-law}
@@ -19,6 +19,7 @@ use Rattle.binary64.proofs.Sign.{mul-neg-left, mul-neg-right}
 use Rattle.binary64.proofs.Opposites.{add-opposed, sub-opposed, sub-swap, mul-opposed}
 use Rattle.binary64.proofs.Kept.{magnitude-fits, larger-fits, root-fits}
 use Rattle.binary64.proofs.root.Middles.{root-is-nearest}
+use Rattle.binary64.proofs.root.Returned.{returned-bits}
 
 -- ---- in either format, from the law on two naturals
 module _ (f : Format) (x y : Float) (F : T (fits f x)) (G : T (fits f y)) (t : T (finite (add f x y))) where
@@ -64,6 +65,9 @@ fits-kept x y F G = record { magnitudes = magnitude-fits binary64 x F; larger-on
 
 pub nearest-root : RootIsNearest
 nearest-root = root-is-nearest
+
+pub roots-of-squares : RootsOfSquares
+roots-of-squares b lo hi = returned-bits b lo hi .back
 
 pub roots : Roots
 unfolding rootIn ofBits

@@ -17,7 +17,7 @@ use Rattle.binary64.proofs.Parts.{hi, lo}
 use Rattle.binary64.proofs.Grid.{cut, grid, Short, short-zero}
 
 -- ---- a / c is n units: then `round` makes n to prec digits of it
-round-at : (f : Format) (s : Bool) (a c n : ℕ) → 0 < c → a * 2 ^ low f ≡ n * c → round f s a c ≡ make f s (closest n (2 ^ cut (prec f) n)) (cut (prec f) n)
+pub round-at : (f : Format) (s : Bool) (a c n : ℕ) → 0 < c → a * 2 ^ low f ≡ n * c → round f s a c ≡ make f s (closest n (2 ^ cut (prec f) n)) (cut (prec f) n)
 round-at f s a c n C e =
     let k = cut (prec f) n in
     round-is f s a c

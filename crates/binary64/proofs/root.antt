@@ -3,3 +3,4 @@ mod Squares
 mod Rounding
 pub mod Patterns
 pub mod Middles
+pub mod Returned

@@ -1,11 +1,11 @@
 -- What is proved of binary64 in proofs/Laws.antt: the statements alone. One unit is 2 ^ -1074.
 use mathlib.Core.Path.{_≡_}
 use mathlib.Core.List.{List}
-use Prim.Native.Nat.{ℕ, _-_, _*_, _^_, _≤_}
+use Prim.Native.Nat.{ℕ, _-_, _*_, _^_, _≤_, _<_}
 use lib.Dec.{T}
 use lib.ListN.{length}
 use lib.IntN.{natAbs, _+ℤ_, _-ℤ_}
-use lib.Ieee.{Float, binary64, neg, add, sub, mul, fits}
+use lib.Ieee.{Float, binary64, neg, add, sub, mul, fits, ofBits}
 use lib.Ieee.Scale.{finite}
 use Rattle.binary64.specs.Numbers.{zero64, isUsable, magnitude, larger}
 use Rattle.binary64.specs.Root.{root, Nearest}
@@ -67,3 +67,7 @@ FitsKept = (x y : Float) → T (fits binary64 x) → T (fits binary64 y) → Kep
 
 abbrev pub RootIsNearest : Type 0
 RootIsNearest = (x : Float) → T (fits binary64 x) → T (isUsable x) → Nearest binary64 x (root x)
+
+-- the root of a rounded square is the number that was squared, for the numbers from 2 ^ -485 up to 2 ^ 416, given by their bit patterns
+abbrev pub RootsOfSquares : Type 0
+RootsOfSquares = (b : ℕ) → 0x21a0_0000_0000_0000 ≤ b → b < 0x59f0_0000_0000_0000 → root (mul binary64 (ofBits binary64 b) (ofBits binary64 b)) ≡ ofBits binary64 b

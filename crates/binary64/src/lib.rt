@@ -82,3 +82,17 @@ pub fn sqrt(x: f64) -> f64
     let z = (u64::leading_zeros(b) as u64) - 11;
     root::scaled(b << z, 1074 - z)
 }
+
+// The same, with a guess: where the guess's square, rounded, is x, the guess is the root. The
+// guesses that are taken are from 2^-485 to 2^416.
+pub fn sqrt_guessed(x: f64, guess: f64) -> f64
+    ensures { λ r. ⌜ r ≡ root x ⌝ }
+{
+    if guess * guess == x {
+        let b = f64::to_bits(guess);
+        if (b >= 0x21a0_0000_0000_0000) & (b < 0x59f0_0000_0000_0000) {
+            return guess;
+        }
+    }
+    sqrt(x)
+}

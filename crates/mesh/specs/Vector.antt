@@ -1,5 +1,6 @@
 -- Records of three floats, in the Rust's order of operations. Definitions only.
-use lib.Ieee.{Float, neg}
+use mathlib.Core.Bool.{cond}
+use lib.Ieee.{Float, neg, lt}
 use Rattle.binary64.specs.Numbers.{zero64, _⊕_, _⊖_, _⊗_, _⊘_}
 use Rattle.binary64.specs.Root.{root}
 use Rattle.mesh.specs.declared.Vec3.{Vec3}
@@ -18,6 +19,13 @@ normSquared a = dot a a
 
 abbrev pub norm : Vec3 → Float
 norm a = root (dot a a)
+
+-- the largest of the components and of their negations
+unfoldable pub greater : Float → Float → Float
+greater a b = cond (lt a b) b a
+
+unfoldable pub longest : Vec3 → Float
+longest a = greater (greater (a .x) (greater (a .y) (a .z))) (greater (neg (a .x)) (greater (neg (a .y)) (neg (a .z))))
 
 unfoldable pub sum : Vec3 → Vec3 → Vec3
 sum a b = vec (a .x ⊕ b .x) (a .y ⊕ b .y) (a .z ⊕ b .z)

@@ -1,7 +1,14 @@
 // Vectors, in the Rust's order of float operations.
 ghost use mathlib.Core.Path.{_≡_};
-ghost use Rattle.mesh.specs.Vector.{dot, norm, normSquared, sum, difference, negation, scaled, quotient};
+ghost use Rattle.mesh.specs.Vector.{dot, greater, longest, norm, normSquared, sum, difference, negation, scaled, quotient};
 use crate::Vec3;
+
+// The larger of two numbers.
+fn larger(a: f64, b: f64) -> f64
+    ensures { λ r. ⌜ r ≡ greater a b ⌝ }
+{
+    if a < b { b } else { a }
+}
 
 impl Vec3 {
     pub fn dot(self, other: Vec3) -> f64
@@ -16,10 +23,21 @@ impl Vec3 {
         self.dot(self)
     }
 
+    // The largest of the components and of their negations: of a vector along an axis, or near one, it
+    // is the length.
+    pub fn longest(self) -> f64
+        ensures { λ r. ⌜ r ≡ longest self ⌝ }
+    {
+        larger(
+            larger(self.x, larger(self.y, self.z)),
+            larger(-self.x, larger(-self.y, -self.z)),
+        )
+    }
+
     pub fn norm(self) -> f64
         ensures { λ r. ⌜ r ≡ norm self ⌝ }
     {
-        binary64::sqrt(self.dot(self))
+        binary64::sqrt_guessed(self.dot(self), self.longest())
     }
 
     pub fn add(self, other: Vec3) -> Vec3

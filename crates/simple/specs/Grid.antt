@@ -9,6 +9,7 @@ use lib.Ieee.{Float, nan}
 use Rattle.mesh.specs.Facts.{CellsOf}
 use Rattle.mesh.specs.Records.{firstAt, secondAt, vectorAt, faceAt}
 use Rattle.mesh.specs.Search.{everyOf}
+use Rattle.mesh.specs.Vector.{norm, difference}
 use Rattle.mesh.specs.declared.Counts.{Counts}
 use Rattle.mesh.specs.declared.Face.{Face}
 use Rattle.mesh.specs.declared.Vec3.{Vec3}
@@ -53,6 +54,12 @@ spanTo m f other = spanOf (faceAt (m .adjacency) (m .geometry) f) (m .places) ot
 -- the face f between its two cells
 abbrev pub span : Grid → ℕ → Span
 span m f = spanTo m f (centre m (neighbourOf m f))
+
+-- how far the centre of f is from those of the cells o and n
+abbrev pub distancesTo : List Float → List Float → ℕ → ℕ → ℕ → Pair
+distancesTo geometry places f o n =
+    let c = vectorAt geometry (9 * f) in
+    pair (norm (difference c (vectorAt places (4 * o)))) (norm (difference c (vectorAt places (4 * n))))
 
 -- a field's numbers at the owner of f and at the cell n
 abbrev pub pairAt : Grid → List Float → ℕ → ℕ → Pair

@@ -65,7 +65,7 @@ floor-of M P w s pp e lo hi =
     let d : M * (P * P) < (q + 1) * (q + 1) * (P * P) = lt-of-lt-of-le (lt-of-le-of-lt (le-of-eq e) hi) (le-trans (mul-le-mul c c) (le-of-eq (mul-mul-mul-comm (q + 1) P (q + 1) P))) in
     (le-of-mul-le-mul-right a (mul-pos pp pp), lt-of-mul-lt-mul-right (P * P) d)
 
-size-exact : (a n : ℕ) → 2 ^ a ≤ n → n < 2 ^ suc a → size n ≡ suc a
+pub size-exact : (a n : ℕ) → 2 ^ a ≤ n → n < 2 ^ suc a → size n ≡ suc a
 size-exact a n lo hi = le-antisymm (size-le n (suc a) hi) (lt-of-not-le (λ (g : size n ≤ a). lt-irrefl n (lt-of-lt-of-le (size-lt n) (le-trans (pow-mono g) lo))))
 
 size-of : (M k w s : ℕ) → 2 ^ 104 ≤ M → M < 2 ^ 106 → M * (2 ^ k * 2 ^ k) ≡ w → s * s ≤ w → w < (s + 1) * (s + 1) → size s ≡ suc (52 + k)

@@ -6,7 +6,7 @@ ghost use lib.Ieee.{nan};
 ghost use Rattle.mesh.specs.Pass.{handedOut};
 ghost use Rattle.coupling.specs.Face.{pair};
 ghost use Rattle.simple.specs.Coefficients.{internalAt, coefficientAnswer, coefficients};
-ghost use Rattle.simple.specs.Grid.{grid, spanOf, Coupled};
+ghost use Rattle.simple.specs.Grid.{grid, spanOf, distancesTo, Coupled};
 ghost use Rattle.simple.specs.Staged.{Passes};
 use crate::inner::stage::settle;
 use coupling::Pair;
@@ -44,6 +44,18 @@ pub fn pair_at(field: &[f64], owner: usize, other: usize) -> Pair
     }
 }
 
+// How far the centre of the face f is from those of the cells o and n.
+pub fn distances_at(geometry: &[f64], places: &[f64], f: usize, o: usize, n: usize) -> Pair
+    requires { ⌜ (9 * f + 8 < length (now geometry)) × (4 * o + 3 < length (now places)) × (4 * n + 3 < length (now places)) ⌝ }
+    ensures { λ r. ⌜ r ≡ distancesTo (now (geometry .entry)) (now (places .entry)) f o n ⌝ }
+{
+    let center = mesh::inner::vector_at(geometry, 9 * f);
+    Pair {
+        owner: center.sub(mesh::inner::vector_at(places, 4 * o)).norm(),
+        other: center.sub(mesh::inner::vector_at(places, 4 * n)).norm(),
+    }
+}
+
 // The coefficient of the face f.
 pub fn internal_at(
     adjacency: &[usize],
@@ -64,8 +76,9 @@ pub fn internal_at(
     let n = face.neighbour - 1;
     let other = mesh::inner::cell_at(places, n);
     let span = span_to(face, places, other.center);
+    let d = distances_at(geometry, places, f, face.owner, n);
     let r = pair_at(responses, face.owner, n);
-    coupling::internal_coefficient(span, coupling::distances(span), r)
+    coupling::internal_coefficient(span, d, r)
 }
 
 // Writes the coefficients up to the first refusal.

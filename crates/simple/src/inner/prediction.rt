@@ -10,6 +10,7 @@ ghost use Rattle.simple.specs.Coefficients.{internalAt};
 ghost use Rattle.simple.specs.Grid.{grid, Coupled};
 ghost use Rattle.simple.specs.Prediction.{flow, sideAt, predictedAt, predictionAnswer, predictedFluxes, Flowing};
 ghost use Rattle.simple.specs.Staged.{staged, Passes};
+use crate::inner::coefficients::distances_at;
 use crate::inner::coefficients::pair_at;
 use crate::inner::coefficients::span_to;
 use crate::inner::stage::Stage;
@@ -63,7 +64,7 @@ fn between(
     let n = face.neighbour - 1;
     let other = mesh::inner::cell_at(places, n);
     let span = span_to(face, places, other.center);
-    let d = coupling::distances(span);
+    let d = distances_at(geometry, places, f, face.owner, n);
     let r = pair_at(responses, face.owner, n);
     match coupling::internal_coefficient(span, d, r) {
         Outcome::Value(k) => {

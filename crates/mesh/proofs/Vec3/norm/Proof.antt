@@ -6,11 +6,16 @@ use Rattle.mesh.proofs.Vec3.norm.Tie as tie
 dot-requires : tie.Need-dot-requires
 dot-requires c κs = search needs
 
-sqrt-requires : tie.Need-sqrt-requires
-sqrt-requires c κs = search needs
+longest-requires : tie.Need-longest-requires
+longest-requires c κs = search needs
+
+sqrt-guessed-requires : tie.Need-sqrt-guessed-requires
+sqrt-guessed-requires c κs = search needs
 
 returns : tie.Need-returns
-returns c = rw (← c .before .dot .ensures) (c .sqrt .ensures)
+returns c =
+    let d : tie.After-dot = search in
+    rw (← d .dot .ensures) (c .sqrt-guessed .ensures)
 
 pub norm-spec : {M : Type 1} → statement M
-norm-spec = tie.close (tie.spec dot-requires sqrt-requires returns)
+norm-spec = tie.close (tie.spec dot-requires longest-requires sqrt-guessed-requires returns)

@@ -50,7 +50,7 @@ cellOf c = search
 abbrev spanOf : tie.After-internal-coefficient → tie.After-span-to
 spanOf c = search
 
-abbrev apart : tie.After-internal-coefficient → tie.After-distances
+abbrev apart : tie.After-internal-coefficient → tie.After-distances-at
 apart c = search
 
 abbrev responding : tie.After-internal-coefficient → tie.After-pair-at
@@ -62,7 +62,7 @@ beginning c = startAt (faceOf c)
 coefficient-is : (c : tie.After-internal-coefficient) → c .internal-coefficient .result ≡ internalAt (meshAt (beginning c)) (now (beginning c .args .responses)) (beginning c .args .f)
 coefficient-is c =
     let s = beginning c in
-    coefficient-read (meshAt s) (s .args .f) (two-cells s) (faceOf c .face-at .result) (cellOf c .cell-at .result) (spanOf c .span-to .result) (apart c .distances .result) (faceOf c .face-at .ensures) (cellOf c .cell-at .ensures) (spanOf c .span-to .ensures) (apart c .distances .ensures) (now (s .args .responses)) (responding c .pair-at .result) (c .internal-coefficient .result) (responding c .pair-at .ensures) (c .internal-coefficient .ensures)
+    coefficient-read (meshAt s) (s .args .f) (two-cells s) (faceOf c .face-at .result) (cellOf c .cell-at .result) (spanOf c .span-to .result) (apart c .distances-at .result) (faceOf c .face-at .ensures) (cellOf c .cell-at .ensures) (spanOf c .span-to .ensures) (apart c .distances-at .ensures) (now (s .args .responses)) (responding c .pair-at .result) (c .internal-coefficient .result) (responding c .pair-at .ensures) (c .internal-coefficient .ensures)
 
 face-at-requires : tie.Need-face-at-requires
 face-at-requires c κs = search needs
@@ -84,8 +84,15 @@ span-to-requires c κs =
     let s = startAt e in
     in-places (meshAt s) (cellsAt s) (length (now (s .args .walls))) _ (s .pre .0 .coupled) (here e)
 
-distances-requires : tie.Need-distances-requires
-distances-requires c κs = search needs
+distances-at-requires : tie.Need-distances-at-requires
+distances-at-requires c κs =
+    let e : tie.After-face-at = search in
+    let s = startAt e in
+    let g = s .pre .0 .coupled in (
+      omega (arith, g .geometry, s .pre .1 .0),
+      in-places (meshAt s) (cellsAt s) (length (now (s .args .walls))) _ g (here e),
+      in-places (meshAt s) (cellsAt s) (length (now (s .args .walls))) _ g (there e),
+    )
 
 pair-at-requires : tie.Need-pair-at-requires
 pair-at-requires c κs =
@@ -130,7 +137,7 @@ returns c =
     let b : tie.After-side-at2 = search in
     let p : tie.After-predicted-flux = search in
     let e = sym (coefficient-is i) ∙ k .k .given .1 in
-    let v = flux-read (meshAt s) (s .args .f) (two-cells s) (faceOf i .face-at .result) (cellOf i .cell-at .result) (spanOf i .span-to .result) (apart i .distances .result) (faceOf i .face-at .ensures) (cellOf i .cell-at .ensures) (spanOf i .span-to .ensures) (apart i .distances .ensures) (flow (now (s .args .velocity)) (now (s .args .pressure)) (now (s .args .gradient)) (now (s .args .responses))) (now (s .args .walls)) _ (a .side-at .result) (b .side-at2 .result) (p .predicted-flux .result) e (a .side-at .ensures) (b .side-at2 .ensures) (p .predicted-flux .ensures) in
+    let v = flux-read (meshAt s) (s .args .f) (two-cells s) (faceOf i .face-at .result) (cellOf i .cell-at .result) (spanOf i .span-to .result) (apart i .distances-at .result) (faceOf i .face-at .ensures) (cellOf i .cell-at .ensures) (spanOf i .span-to .ensures) (apart i .distances-at .ensures) (flow (now (s .args .velocity)) (now (s .args .pressure)) (now (s .args .gradient)) (now (s .args .responses))) (now (s .args .walls)) _ (a .side-at .result) (b .side-at2 .result) (p .predicted-flux .result) e (a .side-at .ensures) (b .side-at2 .ensures) (p .predicted-flux .ensures) in
     rw e (c .late .ensures ∙ ap lateOf v)
 
 returns-2 : tie.Need-returns-2
@@ -148,7 +155,7 @@ between-spec =
     sub-n
     cell-at-requires
     span-to-requires
-    distances-requires
+    distances-at-requires
     pair-at-requires
     internal-coefficient-requires
     enum-known-k

@@ -30,6 +30,10 @@ pub fn run(port: &Port) {
     for (name, made) in [
         ("127x129 quads", makers::quads(127, 129)),
         ("20x21x26 hexes", makers::hexes(20, 21, 26)),
+        (
+            "127x129 quads, distorted",
+            makers::distorted_quads(127, 129),
+        ),
     ] {
         let lent = ordinary(&made);
         println!(

@@ -73,25 +73,30 @@ pub fn random(random: &mut Random, most: usize) -> Option<Made> {
 
 /// Squares of side 1.
 pub fn quads(columns: usize, rows: usize) -> Made {
-    plain(Shape::Quads, [columns, rows, 0])
+    plain(Shape::Quads, [columns, rows, 0], 0.0)
+}
+
+/// Quadrilaterals: the corners of squares of side 1, moved by up to 0.1 each way.
+pub fn distorted_quads(columns: usize, rows: usize) -> Made {
+    plain(Shape::Quads, [columns, rows, 0], 0.2)
 }
 
 /// Cubes of side 1.
 pub fn hexes(columns: usize, rows: usize, layers: usize) -> Made {
-    plain(Shape::Hexes, [columns, rows, layers])
+    plain(Shape::Hexes, [columns, rows, layers], 0.0)
 }
 
-fn plain(shape: Shape, counts: [usize; 3]) -> Made {
+fn plain(shape: Shape, counts: [usize; 3], noise: f64) -> Made {
     let grid = Grid {
         shape,
         counts,
         lines: counts.map(|count| (0..=count).map(|at| at as f64).collect()),
-        noise: 0.0,
+        noise,
         scale: [1.0; 3],
         shift: [0.0; 3],
         periodic: [false; 3],
     };
-    build(&mut Random::new(0), &grid).expect("a grid of unit cells is a mesh")
+    build(&mut Random::new(0), &grid).expect("a grid of such cells is a mesh")
 }
 
 fn counts(random: &mut Random, shape: Shape, most: usize) -> [usize; 3] {

@@ -70,3 +70,11 @@ predicted s d k a b =
 -- 9 where it is not finite
 unfoldable pub predictedFlux : Span → Pair → Float → Side → Side → Outcome
 predictedFlux s d k a b = cond (isFinite (predicted s d k a b)) (Value (predicted s d k a b)) (Bad 9)
+
+-- ---- the corrected flux
+
+-- predicted − coefficient × (other − own); 9 for the coefficient first, then for a result that is not finite
+unfoldable pub correctedFlux : Float → Float → Float → Float → Outcome
+correctedFlux p k other own =
+    let v = p ⊖ k ⊗ (other ⊖ own) in
+    cond (isUsable k) (cond (isFinite v) (Value v) (Bad 9)) (Bad 9)

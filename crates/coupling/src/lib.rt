@@ -3,7 +3,7 @@
 // that of its neighbour or, at a linked face, of the peer's owner.
 ghost use mathlib.Core.Path.{_≡_};
 ghost use Rattle.coupling.specs.Cell.{inverseDiagonal, correctedVelocity, stands, divergence};
-ghost use Rattle.coupling.specs.Face.{distances, faceResponse, projected, positive, internalCoefficient, linkedCoefficient, fixedCoefficient, mixed, predicted, predictedFlux};
+ghost use Rattle.coupling.specs.Face.{distances, faceResponse, projected, positive, internalCoefficient, linkedCoefficient, fixedCoefficient, mixed, predicted, predictedFlux, correctedFlux};
 use mesh::Outcome;
 use mesh::Vec3;
 
@@ -116,6 +116,21 @@ pub fn predicted_flux(s: Span, d: Pair, k: f64, a: Side, b: Side) -> Outcome
     ensures { λ r. ⌜ r ≡ predictedFlux s d k a b ⌝ }
 {
     let flux = predicted(s, d, k, a, b);
+    if binary64::finite(flux) {
+        return Outcome::Value(flux);
+    }
+    Outcome::Bad(9)
+}
+
+// The corrected flux of a face of the coefficient k between the corrections `own`, of its owner, and
+// `other`.
+pub fn corrected_flux(predicted: f64, k: f64, other: f64, own: f64) -> Outcome
+    ensures { λ r. ⌜ r ≡ correctedFlux predicted k other own ⌝ }
+{
+    if !binary64::usable(k) {
+        return Outcome::Bad(9);
+    }
+    let flux = predicted - k * (other - own);
     if binary64::finite(flux) {
         return Outcome::Value(flux);
     }

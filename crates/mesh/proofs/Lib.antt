@@ -4,6 +4,7 @@ pub mod Search
 pub mod Chains
 pub mod Filling
 pub mod Pass
+pub mod Values
 pub mod Vectors
 pub mod Facts
 pub mod Good

@@ -2,5 +2,6 @@
 pub mod Between
 pub mod Checked
 pub mod Largest
+pub mod Promised
 pub mod Sides
 pub mod Stages

@@ -4,5 +4,7 @@ pub mod Diagonal
 pub mod Coefficients
 pub mod Boundary
 pub mod Prediction
+pub mod Correction
+pub mod Promise
 pub mod Velocity
 pub mod Metrics

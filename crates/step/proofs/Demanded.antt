@@ -1,0 +1,136 @@
+-- An accepted step meets demand 3. Assumes nothing.
+use mathlib.Core.Path.{_≡_, refl, sym, ap, _∙_, subst}
+use mathlib.Core.Logic.{inl, inr}
+use mathlib.Core.List.{List}
+use mathlib.Core.Bool.{Bool, true, false, not}
+use Prim.Native.Nat.{ℕ, suc, _*_, _-_, _<_, _≤_}
+use native.Mathlib.Nat.{eq-zero-or-pos}
+use native.Mathlib.Omega.{arith}
+use lib.Dec.{T}
+use lib.ListN.{length, getD}
+use lib.Ieee.{Float, nan, binary64, fits}
+use lib.Ieee.Scale.{finite}
+use borrow.Author.Tests.{not-false}
+use Rattle.binary64.specs.Numbers.{isFinite}
+use Rattle.mesh.specs.Answers.{orElse, firstOf}
+use Rattle.mesh.specs.Pass.{valueOf}
+use Rattle.mesh.specs.Records.{secondAt}
+use Rattle.mesh.specs.Search.{lowestWhere}
+use Rattle.mesh.specs.declared.Answer.the-variants.{Accepted}
+use Rattle.mesh.specs.declared.Found.{Found}
+use Rattle.mesh.specs.declared.Found.the-variants.{Nothing, At}
+use Rattle.mesh.proofs.Facts.{both-accepted}
+use Rattle.mesh.proofs.Search.{none-below}
+use Rattle.mesh.proofs.Values.{length-listOf, getD-listOf, value-at}
+use Rattle.numerics.specs.Checks.{lentOf}
+use Rattle.numerics.specs.Outflow.{Flows, outflows, facesOf}
+use Rattle.numerics.specs.Stencil.{stencilAnswer}
+use Rattle.balance.proofs.Closes.{balances}
+use Rattle.balance.specs.Balance.{Balanced}
+use Rattle.simple.specs.Boundary.{boundsOf, boundaryAnswer, coefficientAt}
+use Rattle.simple.specs.Correction.{Correctable, correctedFluxAt, correctionAnswer, correctedFluxes}
+use Rattle.simple.specs.Metrics.{metricsOf, metricsAnswer}
+use Rattle.simple.specs.Prediction.{predictedAt, predictionAnswer}
+use Rattle.simple.specs.Promise.{Boundary, Promise, boundaryOf}
+use Rattle.simple.proofs.Promised.{promised, withGiven, carried}
+use Rattle.step.specs.Step.{Given, Lendable, gridOf, flowOf, predictedOf, coefficientsOf, correctingOf, fluxesOf, outflowsOf, spilled, endless, finiteAnswer, workAnswer}
+use Rattle.step.specs.Demand.{wallsOf, DemandThree}
+use Rattle.step.proofs.Fitting.{value-fits}
+
+nothing-spilled : (f : Found) → spilled f ≡ Accepted → f ≡ Nothing
+unfolding spilled
+nothing-spilled Nothing h = refl
+nothing-spilled (At c) h = cc
+
+module _ (d : Given) (ready : Lendable d) where
+  abbrev faces : ℕ
+  faces = d .mesh .counts .faces
+
+  abbrev cells : ℕ
+  cells = d .mesh .counts .cells
+
+  predicted-size : length (predictedOf d) ≡ faces
+  predicted-size = length-listOf (λ (i : ℕ). valueOf (predictedAt (gridOf d) (flowOf d) (d .walls .values) i)) (length (d .walls .values)) ∙ ready .walls
+
+  coefficients-size : length (coefficientsOf d) ≡ faces
+  coefficients-size = length-listOf (λ (i : ℕ). valueOf (coefficientAt (gridOf d) (boundsOf (d .conditions)) (d .responses .values) i)) faces
+
+  fluxes-size : length (fluxesOf d) ≡ faces
+  fluxes-size = length-listOf (λ (i : ℕ). valueOf (correctedFluxAt (correctingOf d) i)) (length (predictedOf d)) ∙ predicted-size
+
+  -- a one-cell face's predicted flux is its wall flux
+  wall-kept : (f : ℕ) → f < faces → secondAt (d .mesh .adjacency) f ≡ 0 → getD (predictedOf d) f nan ≡ getD (d .walls .values) f nan
+  unfolding predictedAt valueOf
+  wall-kept f l e =
+      getD-listOf (λ (i : ℕ). valueOf (predictedAt (gridOf d) (flowOf d) (d .walls .values) i)) (length (d .walls .values)) f (omega (arith, l, ready .walls)) ∙ rw e
+
+  peer-in : (f : ℕ) → f < faces → secondAt (d .conditions .codes) f ≤ faces
+  peer-in f l =
+      elim (eq-zero-or-pos (secondAt (d .conditions .codes) f)) [
+        | inl z ↦ omega arith
+        | inr p ↦ let q = ready .good .sound .links f l (λ z. absurd (omega arith)) .present in omega (arith, q, ready .good .codes)
+      ]
+
+  below : (f : ℕ) → f < length (predictedOf d) → f < faces
+  below f l = subst (λ (n : ℕ). f < n) predicted-size l
+
+  correctable : Correctable (correctingOf d)
+  correctable = record {
+    adjacency = omega (arith, ready .good .sized .adjacency, predicted-size);
+    codes = omega (arith, ready .good .codes, predicted-size);
+    values = omega (arith, ready .good .values, predicted-size);
+    coefficients = coefficients-size ∙ sym predicted-size;
+    sides = λ f l. rw (ready .correction) (ready .good .sound .faces f (below f l));
+    peers = λ f l. rw predicted-size (peer-in f (below f l));
+    links = λ f l n. ready .good .sound .links f (below f l) n .one-cell;
+  }
+
+  module _ (fit : (f : ℕ) → f < length (d .walls .values) → T (fits binary64 (getD (d .walls .values) f nan))) (ok : workAnswer d ≡ Accepted) where
+    corrected-ok : correctionAnswer (correctingOf d) ≡ Accepted
+    unfolding workAnswer firstOf
+    corrected-ok =
+        let one = both-accepted (stencilAnswer (lentOf (d .mesh) (d .conditions)) (d .records)) _ ok in
+        let two = both-accepted (predictionAnswer (gridOf d) (flowOf d) (d .walls .values)) _ (one .1) in
+        let three = both-accepted (boundaryAnswer (gridOf d) (boundsOf (d .conditions)) (d .responses .values) faces) _ (two .1) in
+        both-accepted (correctionAnswer (correctingOf d)) _ (three .1) .0
+
+    finite-ok : finiteAnswer (outflowsOf d) ≡ Accepted
+    unfolding workAnswer firstOf
+    finite-ok =
+        let one = both-accepted (stencilAnswer (lentOf (d .mesh) (d .conditions)) (d .records)) _ ok in
+        let two = both-accepted (predictionAnswer (gridOf d) (flowOf d) (d .walls .values)) _ (one .1) in
+        let three = both-accepted (boundaryAnswer (gridOf d) (boundsOf (d .conditions)) (d .responses .values) faces) _ (two .1) in
+        let four = both-accepted (correctionAnswer (correctingOf d)) _ (three .1) in
+        let five = both-accepted (metricsAnswer (metricsOf (d .mesh .places) (outflowsOf d))) _ (four .1) in
+        both-accepted (finiteAnswer (outflowsOf d)) Accepted (five .1) .0
+
+    finite-outflows : (c : ℕ) → c < length (outflowsOf d) → T (finite (getD (outflowsOf d) c nan))
+    finite-outflows c l =
+        let e = none-below (endless (outflowsOf d)) (length (outflowsOf d)) c (nothing-spilled (lowestWhere (endless (outflowsOf d)) (length (outflowsOf d))) finite-ok) l in
+        subst T (sym (not-false (isFinite (getD (outflowsOf d) c nan)) e)) tt
+
+    -- every flux is a value of binary64
+    fluxes-fit : (f : ℕ) → f < length (fluxesOf d) → T (fits binary64 (getD (fluxesOf d) f nan))
+    fluxes-fit f l =
+        let h : f < length (predictedOf d) = omega (arith, l, fluxes-size, predicted-size) in
+        let w = value-at (correctedFluxAt (correctingOf d)) (length (predictedOf d)) f corrected-ok h in
+        subst (λ (x : Float). T (fits binary64 x)) (sym (w .2))
+        (value-fits (correctingOf d) f (w .0) (λ e. subst (λ (x : Float). T (fits binary64 x)) (sym (wall-kept f (below f h) e)) (fit f (omega (arith, below f h, ready .walls)))) (w .1))
+
+    flows : Flows cells (d .mesh .adjacency) (fluxesOf d)
+    flows = record { size = omega (arith, ready .good .sized .adjacency, fluxes-size); faces = λ f l. ready .good .sound .faces f (omega (arith, l, fluxes-size)) }
+
+    kept : Promise (wallsOf d) (fluxesOf d)
+    kept =
+        subst (λ (n : ℕ). Promise (sized n) (fluxesOf d)) predicted-size
+        (carried (boundaryOf (correctingOf d)) (λ (f : ℕ). getD (d .walls .values) f nan) (fluxesOf d) (λ f l e. wall-kept f (below f l) e) (λ f l n. correctable .links f l n) (promised (correctingOf d) correctable corrected-ok))
+      where
+        sized : ℕ → Boundary
+        sized n = record { faces = n; neighbour = wallsOf d .neighbour; peer = wallsOf d .peer; code = wallsOf d .code; given = wallsOf d .given; coefficient = wallsOf d .coefficient }
+
+    pub demanded : DemandThree d (fluxesOf d) (outflowsOf d)
+    demanded = record {
+      finite-outflows = finite-outflows;
+      balanced = subst (λ (n : ℕ). Balanced (facesOf (d .mesh .adjacency) (fluxesOf d)) n (outflowsOf d)) fluxes-size (balances cells (d .mesh .adjacency) (fluxesOf d) flows fluxes-fit finite-outflows);
+      kept = kept;
+    }

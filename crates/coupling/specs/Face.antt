@@ -56,7 +56,7 @@ fixedCoefficient area away response = positive (projected response area away)
 unfoldable pub mixed : Vec3 → Float → Vec3 → Float → Vec3
 mixed a s b t = sum (scaled a s) (scaled b t)
 
--- the interpolated velocity, the covariance of response and gradient, and the coefficient times what the pressure difference is less than the gradient's
+-- the interpolated velocity and the covariance of response and gradient, both times the area, and the coefficient times (gradient · d − pressure difference)
 unfoldable pub predicted : Span → Pair → Float → Side → Side → Float
 predicted s d k a b =
     let w = d .other ⊘ (d .owner ⊕ d .other) in

@@ -1,8 +1,10 @@
 -- What the checks establish once they pass. Assumes nothing.
 use mathlib.Core.Path.{_≡_, refl, sym, _∙_}
+use mathlib.Core.Logic.{inl, inr}
 use mathlib.Core.List.{List, [], _∷_}
 use mathlib.Core.Bool.{Bool, true, false, not, cond}
-use Prim.Native.Nat.{ℕ, _+_, _-_, _/_, _≤_, _<_}
+use Prim.Native.Nat.{ℕ, _+_, _-_, _*_, _/_, _≤_, _<_}
+use native.Mathlib.Nat.{eq-zero-or-pos}
 use native.Mathlib.Omega.{arith}
 use lib.Dec.{eqb, leb, ltb}
 use lib.ListN.{length}
@@ -88,6 +90,14 @@ links-in adjacency codes h f l nz =
       other = eqb-false _ _ (w .1 0);
       back = eqb-true _ _ (not-false _ (w .1 1));
     }
+
+-- a peer is a face + 1, or 0, where each link that there is has been found good
+pub peer-below : (adjacency codes : List ℕ) (faces f : ℕ) → length codes ≡ 2 * faces → ((secondAt codes f ≡ 0 → ⊥) → LinkOf adjacency codes f) → secondAt codes f ≤ faces
+peer-below adjacency codes faces f e links =
+    elim (eq-zero-or-pos (secondAt codes f)) [
+      | inl z ↦ omega arith
+      | inr p ↦ let q = links (λ z. absurd (omega arith)) .present in omega arith
+    ]
 
 -- nothing follows the last check
 pub or-accepted : (a : Answer) → orElse a Accepted ≡ a

@@ -1,33 +1,21 @@
 -- What the checks of a stencil's entry establish. Assumes nothing.
 use mathlib.Core.Path.{_≡_, sym, _∙_}
-use mathlib.Core.Logic.{inl, inr}
-use mathlib.Core.List.{List}
 use mathlib.Core.Bool.{_&&_}
 use Prim.Native.Nat.{ℕ, _*_, _≤_, _<_}
-use native.Mathlib.Nat.{eq-zero-or-pos}
 use native.Mathlib.Omega.{arith}
 use lib.Dec.{eqb, leb}
 use lib.ListN.{length}
 use borrow.Author.Tests.{eqb-true, leb-true}
 use Rattle.mesh.specs.Answers.{pass, firstOf}
 use Rattle.mesh.specs.Checks.{sizesOk}
-use Rattle.mesh.specs.Records.{secondAt}
 use Rattle.mesh.specs.Mesh.{Mesh, Conditions, meshSized, conditionsSized, topology, Sized, Sound}
 use Rattle.mesh.specs.declared.Answer.{Answer}
 use Rattle.mesh.specs.declared.Answer.the-variants.{Accepted}
 use Rattle.mesh.proofs.Truth.{and-true, every-at}
-use Rattle.mesh.proofs.Facts.{both-accepted, passed}
+use Rattle.mesh.proofs.Facts.{both-accepted, passed, peer-below}
 use Rattle.mesh.proofs.Good.{sized, sound}
 use Rattle.numerics.specs.Lent.{Good}
 use Rattle.numerics.specs.Checks.{Lengths, stencilSizes, stencilSized, stencilChecks, StencilChecked, lentOf}
-
--- a peer is a face + 1, or 0
-peer-in : (m : Mesh) (codes : List ℕ) (f : ℕ) → Sound m codes → length codes ≡ 2 * (m .counts .faces) → f < m .counts .faces → secondAt codes f ≤ m .counts .faces
-peer-in m codes f s e l =
-    elim (eq-zero-or-pos (secondAt codes f)) [
-      | inl z ↦ omega arith
-      | inr p ↦ let q = s .links f l (λ z. absurd (omega arith)) .present in omega arith
-    ]
 
 pub lent-good : (m : Mesh) (k : Conditions) → Sized m → Sound m (k .codes) → length (k .codes) ≡ 2 * (m .counts .faces) → length (k .values) ≡ 4 * (m .counts .faces) → Good (lentOf m k)
 lent-good m k z s c v = record {
@@ -40,7 +28,7 @@ lent-good m k z s c v = record {
   web = record { heads-size = z .heads; bordering-size = z .bordering; ended = s .borderings };
   owner-cell = λ f l. s .faces f l .owner;
   neighbour-cell = λ f l. s .faces f l .neighbour;
-  peer-face = λ f l. peer-in m (k .codes) f s c l;
+  peer-face = λ f l. peer-below (m .adjacency) (k .codes) (m .counts .faces) f c (s .links f l);
   faces-end = s .facings;
 }
 

@@ -1,10 +1,8 @@
 -- What the checks of each entry establish. Assumes nothing.
 use mathlib.Core.Path.{_≡_, sym, _∙_, subst}
-use mathlib.Core.Logic.{inl, inr}
 use mathlib.Core.List.{List}
 use mathlib.Core.Bool.{true, _&&_}
 use Prim.Native.Nat.{ℕ, _+_, _*_, _≤_, _<_}
-use native.Mathlib.Nat.{eq-zero-or-pos}
 use native.Mathlib.Omega.{arith}
 use lib.Dec.{eqb, leb}
 use lib.ListN.{length}
@@ -14,7 +12,6 @@ use Rattle.mesh.specs.Answers.{at, orElse, shape}
 use Rattle.mesh.specs.Chains.{lowestBroken}
 use Rattle.mesh.specs.Checks.{sizesOk, lowestBadFace, lowestUnknownCode, NamesBadLink}
 use Rattle.mesh.specs.Mesh.{Conditions, conditionsSized}
-use Rattle.mesh.specs.Records.{secondAt}
 use Rattle.mesh.specs.Search.{lower, everyOf}
 use Rattle.mesh.specs.declared.Answer.{Answer}
 use Rattle.mesh.specs.declared.Answer.the-variants.{Accepted}
@@ -22,7 +19,7 @@ use Rattle.mesh.specs.declared.Counts.{Counts}
 use Rattle.mesh.specs.declared.Found.{Found}
 use Rattle.mesh.specs.declared.Found.the-variants.{Nothing}
 use Rattle.mesh.specs.declared.chain.Form.the-variants.{Single}
-use Rattle.mesh.proofs.Facts.{both-accepted, nothing-at, shape-accepted, small, faces-in, links-in}
+use Rattle.mesh.proofs.Facts.{both-accepted, nothing-at, shape-accepted, small, faces-in, links-in, peer-below}
 use Rattle.mesh.proofs.Search.{none-lower}
 use Rattle.mesh.proofs.Truth.{and-true, every-at}
 use Rattle.numerics.specs.Checks.{Slices, lengthsOf, stencilSized}
@@ -90,13 +87,6 @@ coefficients-passed n m responses outs h =
 
 -- ---- with conditions and links
 
-peer-in : (adjacency codes : List ℕ) (faces f : ℕ) → NamesBadLink adjacency codes Nothing → length codes ≡ 2 * faces → f < faces → secondAt codes f ≤ faces
-peer-in adjacency codes faces f none e l =
-    elim (eq-zero-or-pos (secondAt codes f)) [
-      | inl z ↦ omega arith
-      | inr p ↦ let q = links-in adjacency codes none f (omega (arith, e, l)) (λ z. absurd (omega arith)) .present in omega arith
-    ]
-
 pub boundary-passed : (n : Counts) (m : Grid) (k : Conditions) (responses : Field) (outs : ℕ) (r : Answer) → BoundaryChecked n m k responses outs r → r ≡ Accepted
     → Coupled m (length (responses .values)) outs × Bounded (boundsOf k) outs × (outs ≡ n .faces)
 unfolding boundaryChecks links
@@ -118,7 +108,7 @@ boundary-passed n m k responses outs r c e =
     let none = none-lower (lowestBadFace (n .cells) (m .adjacency)) (lowestUnknownCode (k .codes)) (nothing-at 4 _ (mesh .0)) in
     let linked : NamesBadLink (m .adjacency) (k .codes) Nothing = subst (NamesBadLink (m .adjacency) (k .codes)) (nothing-at 6 (c .link) (mesh .1)) (c .names) in (
       coupled-by m (n .cells) (n .faces) (length (responses .values)) outs (eqb-true _ _ (v .1)) o (coupled n m (u .0) (none .0)),
-      record { codes = omega (arith, codes, o); values = omega (arith, values, o); peers = λ f l. peer-in (m .adjacency) (k .codes) outs f linked (omega (arith, codes, o)) l },
+      record { codes = omega (arith, codes, o); values = omega (arith, values, o); peers = λ f l. peer-below (m .adjacency) (k .codes) outs f (omega (arith, codes, o)) (links-in (m .adjacency) (k .codes) linked f (omega (arith, codes, o, l))) },
       o,
     )
 

@@ -16,15 +16,19 @@ use Rattle.mesh.specs.declared.Answer.the-variants.{Accepted, Refused}
 use Rattle.mesh.specs.declared.Outcome.{Outcome}
 use Rattle.mesh.specs.declared.Outcome.the-variants.{Value, Bad}
 use Rattle.mesh.proofs.Pass.{refused-at}
-use Rattle.simple.specs.Staged.{twoRefusals, lateOf, staged, isEarly, earlyNumber, keptAt, lateAfter}
+use Rattle.simple.specs.Staged.{Passes, twoRefusals, lateOf, staged, isEarly, earlyNumber, keptAt, lateAfter}
 use Rattle.simple.specs.declared.inner.stage.Stage.{Stage}
 use Rattle.simple.specs.declared.inner.stage.Stage.the-variants.{Kept, Early, Late}
 
 -- an accepted pass leaves its list
-pub handed : (a : Answer) (n : ℕ) (l new : List Float) → (a ≡ Accepted → new ≡ l) → handedOut a n new ≡ handedOut a n l
+handed : (a : Answer) (n : ℕ) (l new : List Float) → (a ≡ Accepted → new ≡ l) → handedOut a n new ≡ handedOut a n l
 unfolding handedOut
 handed Accepted n l new h = h refl
 handed (Refused k i) n l new h = refl
+
+-- what a pass that answers a, and leaves `new`, hands out once it is settled
+pub settled : (a : Answer) (l : List Float) (n : ℕ) (b r : Answer) (new out : List Float) → Passes a l b new → length new ≡ n → r ≡ b → out ≡ handedOut b (length new) new → (r ≡ a) × (out ≡ handedOut r n l)
+settled a l n b r new out p e s o = (s ∙ p .0, rw s (o ∙ ap (λ (k : ℕ). handedOut b k new) e ∙ handed b n l new (p .1)))
 
 -- one item, which refuses in the first sequence
 first-stage : (a b : Outcome) → isEarly (staged a b) ≡ true → a ≡ Bad (earlyNumber (staged a b))

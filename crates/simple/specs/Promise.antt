@@ -6,8 +6,6 @@ use lib.ListN.{length, getD}
 use lib.Ieee.{Float, nan}
 use Rattle.binary64.specs.Units.{Opposite}
 use Rattle.mesh.specs.Records.{firstAt, secondAt}
-use Rattle.mesh.specs.declared.Answer.{Answer}
-use Rattle.mesh.specs.declared.Answer.the-variants.{Accepted}
 use Rattle.simple.specs.Correction.{Correcting}
 
 -- what the promise reads: how many faces there are, and of the face f its neighbour + 1, its peer + 1, its condition's code, its given flux and its coefficient

@@ -1,10 +1,8 @@
 -- An accepted step meets demand 3. Assumes nothing.
 use mathlib.Core.Path.{_≡_, refl, sym, ap, _∙_, subst}
-use mathlib.Core.Logic.{inl, inr}
 use mathlib.Core.List.{List}
 use mathlib.Core.Bool.{Bool, true, false, not}
 use Prim.Native.Nat.{ℕ, suc, _*_, _-_, _<_, _≤_}
-use native.Mathlib.Nat.{eq-zero-or-pos}
 use native.Mathlib.Omega.{arith}
 use lib.Dec.{T}
 use lib.ListN.{length, getD}
@@ -19,7 +17,7 @@ use Rattle.mesh.specs.Search.{lowestWhere}
 use Rattle.mesh.specs.declared.Answer.the-variants.{Accepted}
 use Rattle.mesh.specs.declared.Found.{Found}
 use Rattle.mesh.specs.declared.Found.the-variants.{Nothing, At}
-use Rattle.mesh.proofs.Facts.{both-accepted}
+use Rattle.mesh.proofs.Facts.{both-accepted, peer-below}
 use Rattle.mesh.proofs.Search.{none-below}
 use Rattle.mesh.proofs.Values.{length-listOf, getD-listOf, value-at}
 use Rattle.numerics.specs.Checks.{lentOf}
@@ -64,13 +62,6 @@ module _ (d : Given) (ready : Lendable d) where
   wall-kept f l e =
       getD-listOf (λ (i : ℕ). valueOf (predictedAt (gridOf d) (flowOf d) (d .walls .values) i)) (length (d .walls .values)) f (omega (arith, l, ready .walls)) ∙ rw e
 
-  peer-in : (f : ℕ) → f < faces → secondAt (d .conditions .codes) f ≤ faces
-  peer-in f l =
-      elim (eq-zero-or-pos (secondAt (d .conditions .codes) f)) [
-        | inl z ↦ omega arith
-        | inr p ↦ let q = ready .good .sound .links f l (λ z. absurd (omega arith)) .present in omega (arith, q, ready .good .codes)
-      ]
-
   below : (f : ℕ) → f < length (predictedOf d) → f < faces
   below f l = subst (λ (n : ℕ). f < n) predicted-size l
 
@@ -81,7 +72,7 @@ module _ (d : Given) (ready : Lendable d) where
     values = omega (arith, ready .good .values, predicted-size);
     coefficients = coefficients-size ∙ sym predicted-size;
     sides = λ f l. rw (ready .correction) (ready .good .sound .faces f (below f l));
-    peers = λ f l. rw predicted-size (peer-in f (below f l));
+    peers = λ f l. rw predicted-size (peer-below (d .mesh .adjacency) (d .conditions .codes) faces f (ready .good .codes) (ready .good .sound .links f (below f l)));
     links = λ f l n. ready .good .sound .links f (below f l) n .one-cell;
   }
 

@@ -1,6 +1,6 @@
 -- `binary64::sqrt_guessed` meets its contract: the root of a rounded square is the number that was squared (`root/Returned.antt`).
 use mathlib.Core.Path.{_≡_, sym, subst}
-use mathlib.Core.Bool.{_&&_}
+use native.Mathlib.Omega.{arith}
 use lib.Dec.{T, leb, ltb, leb→le, ltb→lt}
 use lib.Ieee.{binary64, fits, toBits}
 use lib.Ieee.Bits.{ofBits-toBits}
@@ -21,10 +21,10 @@ returns c =
     let s : tie.Start = search in
     let t : tie.Then1 = search in
     let b = toBits binary64 (s .args .guess) in
-    let both : T (leb 0x21a0_0000_0000_0000 b && ltb b 0x59f0_0000_0000_0000) = subst T (sym (c .if2 .taken)) tt in
-    root-guessed (s .args .x) (s .args .guess) b (ofBits-toBits binary64 (s .args .guess) (subst T (sym (s .good .1 .0 .1)) tt)) (t .if1 .taken)
-    (leb→le 0x21a0_0000_0000_0000 b (and-l (leb 0x21a0_0000_0000_0000 b) (ltb b 0x59f0_0000_0000_0000) both))
-    (ltb→lt b 0x59f0_0000_0000_0000 (and-r (leb 0x21a0_0000_0000_0000 b) (ltb b 0x59f0_0000_0000_0000) both))
+    let both = subst T (sym (c .if2 .taken)) tt in
+    let lo = leb→le _ b (and-l (leb _ b) (ltb b _) both) in
+    let hi = ltb→lt b _ (and-r (leb _ b) (ltb b _) both) in
+    root-guessed (s .args .x) (s .args .guess) b (ofBits-toBits binary64 (s .args .guess) (subst T (sym (s .good .1 .0 .1)) tt)) (t .if1 .taken) (omega (arith, lo)) (omega (arith, hi))
 
 sqrt-requires : tie.Need-sqrt-requires
 sqrt-requires c κs = search needs

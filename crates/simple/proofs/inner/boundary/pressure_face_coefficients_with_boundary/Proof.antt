@@ -1,11 +1,7 @@
 -- `simple::inner::boundary::pressure_face_coefficients_with_boundary` meets its contract.
-use Rattle.simple.proofs.Stages.{handed}
-use Rattle.simple.specs.Grid.{grid}
-use Rattle.simple.specs.Boundary.{bounds, boundaryCoefficients}
-use Rattle.mesh.specs.Pass.{handedOut}
+use Rattle.simple.proofs.Stages.{settled}
 use denote.Ref.{now}
 use lib.ListN.{length}
-use Prim.Native.Nat.{ℕ}
 use mathlib.Core.Path.{_≡_, sym, _∙_, ap}
 use borrow.Author.Needs.{needs}
 use Rattle.simple.proofs.inner.boundary.pressure_face_coefficients_with_boundary.Statement.{
@@ -27,14 +23,7 @@ returns c =
     let s : tie.Start = search in
     let i : tie.After-fill = search in
     let t : tie.After-settle = search in
-    let new = i .fill .last .1 .1 .1 .1 .1 .1 .0 in
-    let n : length new ≡ length (now (s .args .out)) = i .fill .kept .1 .1 .1 .1 .1 .1 .0 in (
-      t .settle .ensures .0 ∙ i .fill .ensures .0,
-      rw (t .settle .ensures .0)
-          (t .settle .ensures .1
-          ∙ ap (λ (k : ℕ). handedOut (i .fill .result) k new) n
-          ∙ handed (i .fill .result) (length (now (s .args .out))) (boundaryCoefficients (grid (now (s .args .adjacency)) (now (s .args .geometry)) (now (s .args .places))) (bounds (now (s .args .codes)) (now (s .args .values))) (now (s .args .responses)) (length (now (s .args .out)))) new (i .fill .ensures .1)),
-    )
+    settled _ _ (length (now (s .args .out))) (i .fill .result) (t .settle .result) (i .fill .last .1 .1 .1 .1 .1 .1 .0) _ (i .fill .ensures) (i .fill .kept .1 .1 .1 .1 .1 .1 .0) (t .settle .ensures .0) (t .settle .ensures .1)
 
 pub pressure-face-coefficients-with-boundary-spec : {M : Type 1} → statement M
 pressure-face-coefficients-with-boundary-spec =

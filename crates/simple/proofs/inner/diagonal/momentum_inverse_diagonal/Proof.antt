@@ -1,10 +1,7 @@
 -- `simple::inner::diagonal::momentum_inverse_diagonal` meets its contract.
-use Rattle.simple.proofs.Stages.{handed}
-use Rattle.simple.specs.Diagonal.{inverses}
-use Rattle.mesh.specs.Pass.{handedOut}
+use Rattle.simple.proofs.Stages.{settled}
 use denote.Ref.{now}
 use lib.ListN.{length}
-use Prim.Native.Nat.{ℕ}
 use mathlib.Core.Path.{_≡_, sym, _∙_, ap}
 use borrow.Author.Needs.{needs}
 use Rattle.simple.proofs.inner.diagonal.momentum_inverse_diagonal.Statement.{statement}
@@ -24,13 +21,7 @@ returns c =
     let s : tie.Start = search in
     let i : tie.After-invert = search in
     let t : tie.After-settle = search in
-    let n : length (i .invert .last .1 .0) ≡ length (now (s .args .diagonal)) = i .invert .kept .1 .0 ∙ s .pre in (
-      t .settle .ensures .0 ∙ i .invert .ensures .0,
-      rw (t .settle .ensures .0)
-          (t .settle .ensures .1
-          ∙ ap (λ (k : ℕ). handedOut (i .invert .result) k (i .invert .last .1 .0)) n
-          ∙ handed (i .invert .result) (length (now (s .args .diagonal))) (inverses (now (s .args .diagonal))) (i .invert .last .1 .0) (i .invert .ensures .1)),
-    )
+    settled _ _ (length (now (s .args .diagonal))) (i .invert .result) (t .settle .result) (i .invert .last .1 .0) _ (i .invert .ensures) (i .invert .kept .1 .0 ∙ s .pre) (t .settle .ensures .0) (t .settle .ensures .1)
 
 pub momentum-inverse-diagonal-spec : {M : Type 1} → statement M
 momentum-inverse-diagonal-spec =

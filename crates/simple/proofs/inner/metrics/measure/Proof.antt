@@ -2,9 +2,11 @@
 use Rattle.mesh.proofs.Pass.{refused-at}
 use Rattle.simple.proofs.Largest.{Surveyed, start, more, finish}
 use Rattle.simple.specs.Metrics.{divergenceAt, measuredBy}
+use Rattle.simple.specs.declared.inner.metrics.Metrics.the-variants.{Measured}
 use Rattle.mesh.specs.declared.Outcome.{Outcome}
 use denote.Ref.{now}
 use lib.ListN.{length}
+use lib.Ieee.{Float}
 use native.Mathlib.Omega.{arith}
 use Prim.Native.Nat.{ℕ, _-_, _≤_, zero-le}
 use mathlib.Core.Path.{_≡_, refl, sym, _∙_, ap}
@@ -78,7 +80,7 @@ unfolding measuredBy
 returns-2 c =
     let s : tie.Start Inv-loop μ-loop = search in
     let w = finish (itemAt s) (length (now (s .args .outflow))) (c .before .loop .maximum) (c .before .loop .c) (c .before .loop .inv) (c .loop-test .left) in
-    rw (w .0, w .1)
+    rw (w .0) (ap (λ (x : Float). Measured (s .args .rms) x) (w .1))
 
 pub measure-spec : {M : Type 1} → statement M
 measure-spec =

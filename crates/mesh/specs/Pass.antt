@@ -51,6 +51,6 @@ handedOutNumbers Accepted n l = l
 handedOutNumbers (Refused k i) n l = replicate n 0
 
 -- an output is untouched where a check of shape or mesh refuses
-unfoldable pub unless : {A : Type 0} → Answer → List A → List A → List A
+unfoldable pub unless : {A : Type 0} → Answer → A → A → A
 unless Accepted old new = new
 unless (Refused k i) old new = old

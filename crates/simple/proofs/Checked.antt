@@ -11,6 +11,7 @@ use borrow.Author.Tests.{eqb-true}
 use Rattle.mesh.specs.Answers.{at, orElse, shape}
 use Rattle.mesh.specs.Chains.{lowestBroken}
 use Rattle.mesh.specs.Checks.{sizesOk, lowestBadFace, lowestUnknownCode, NamesBadLink}
+use Rattle.mesh.specs.Facts.{FacesIn, LinksIn}
 use Rattle.mesh.specs.Mesh.{Conditions, conditionsSized}
 use Rattle.mesh.specs.Search.{lower, everyOf}
 use Rattle.mesh.specs.declared.Answer.{Answer}
@@ -29,6 +30,8 @@ use Rattle.numerics.proofs.Flows.{flows-by}
 use Rattle.numerics.proofs.Slopes.{slopes-by}
 use Rattle.simple.specs.Boundary.{Bounded, links, boundsOf, boundaryChecks, BoundaryChecked}
 use Rattle.simple.specs.Coefficients.{coefficientChecks}
+use Rattle.simple.specs.Corrected.{Fields, correctionSizes, fieldNumbers, correctingBy, correctionChecks, CorrectionChecked}
+use Rattle.simple.specs.Correction.{Correctable}
 use Rattle.simple.specs.Diagonal.{diagonalChecks}
 use Rattle.simple.specs.Grid.{Grid, Field, Coupled, gridSizes, gridSized}
 use Rattle.simple.specs.Metrics.{metricsSizes, metricsChecks}
@@ -59,15 +62,15 @@ velocity-passed n velocity responses gradient outs h =
 
 -- ---- faces and their cells
 
-coupled : (n : Counts) (m : Grid) → gridSized n m ≡ true → lowestBadFace (n .cells) (m .adjacency) ≡ Nothing → Coupled m (n .cells) (n .faces)
-coupled n m h none =
+coupled : (n : Counts) (m : Grid) → gridSized n m ≡ true → FacesIn (n .cells) (m .adjacency) → Coupled m (n .cells) (n .faces)
+coupled n m h faces =
     let w = every-at (eqb (length (m .adjacency)) (2 * (n .faces))) (gridSizes n m) h in
     let a : length (m .adjacency) ≡ 2 * (n .faces) = eqb-true _ _ (w .0) in
     record {
       adjacency = a;
       geometry = eqb-true _ _ (w .1 0);
       places = eqb-true _ _ (w .1 1);
-      sides = λ f l. faces-in (n .cells) (m .adjacency) none f (omega (arith, a, l));
+      sides = λ f l. faces f (omega (arith, a, l));
     }
 
 -- by the lengths that are at hand
@@ -83,20 +86,27 @@ coefficients-passed n m responses outs h =
     let w = and-true (gridSized n m && eqb (length (responses .values)) (n .cells)) (eqb outs (n .faces)) (s .1) in
     let v = and-true (gridSized n m) (eqb (length (responses .values)) (n .cells)) (w .0) in
     let o : outs ≡ n .faces = eqb-true _ _ (w .1) in
-    (coupled-by m (n .cells) (n .faces) (length (responses .values)) outs (eqb-true _ _ (v .1)) o (coupled n m (v .0) (nothing-at 4 _ (both .1))), o)
+    (coupled-by m (n .cells) (n .faces) (length (responses .values)) outs (eqb-true _ _ (v .1)) o (coupled n m (v .0) (faces-in (n .cells) (m .adjacency) (nothing-at 4 _ (both .1)))), o)
 
 -- ---- with conditions and links
 
+-- 4 and 6, where they pass
+links-passed : (cells : ℕ) (adjacency codes : List ℕ) (link : Found) → NamesBadLink adjacency codes link → links cells adjacency codes link ≡ Accepted → FacesIn cells adjacency × LinksIn adjacency codes
+unfolding links
+links-passed cells adjacency codes link names ok =
+    let both = both-accepted (at 4 (lower (lowestBadFace cells adjacency) (lowestUnknownCode codes))) (at 6 link) ok in
+    let none = none-lower (lowestBadFace cells adjacency) (lowestUnknownCode codes) (nothing-at 4 _ (both .0)) in
+    (faces-in cells adjacency (none .0), links-in adjacency codes (subst (NamesBadLink adjacency codes) (nothing-at 6 link (both .1)) names))
+
 pub boundary-passed : (n : Counts) (m : Grid) (k : Conditions) (responses : Field) (outs : ℕ) (r : Answer) → BoundaryChecked n m k responses outs r → r ≡ Accepted
     → Coupled m (length (responses .values)) outs × Bounded (boundsOf k) outs × (outs ≡ n .faces)
-unfolding boundaryChecks links
+unfolding boundaryChecks
 boundary-passed n m k responses outs r c e =
     let bound = conditionsSized (n .faces) (k .codes) (k .values) in
     let sized = gridSized n m && bound && eqb (length (responses .values)) (n .cells) && eqb outs (n .faces) in
     let same = eqb (k .number) (n .mesh) && eqb (responses .number) (n .mesh) in
-    let four = at 4 (lower (lowestBadFace (n .cells) (m .adjacency)) (lowestUnknownCode (k .codes))) in
-    let both = both-accepted (shape (sizesOk n) sized same) (orElse four (at 6 (c .link))) (sym (c .is) ∙ e) in
-    let mesh = both-accepted four (at 6 (c .link)) (both .1) in
+    let both = both-accepted (shape (sizesOk n) sized same) (links (n .cells) (m .adjacency) (k .codes) (c .link)) (sym (c .is) ∙ e) in
+    let linked = links-passed (n .cells) (m .adjacency) (k .codes) (c .link) (c .names) (both .1) in
     let s = shape-accepted (sizesOk n) sized same (both .0) in
     let w = and-true (gridSized n m && bound && eqb (length (responses .values)) (n .cells)) (eqb outs (n .faces)) (s .1) in
     let v = and-true (gridSized n m && bound) (eqb (length (responses .values)) (n .cells)) (w .0) in
@@ -104,12 +114,40 @@ boundary-passed n m k responses outs r c e =
     let t = and-true (eqb (length (k .codes)) (2 * (n .faces))) (eqb (length (k .values)) (4 * (n .faces))) (u .1) in
     let o : outs ≡ n .faces = eqb-true _ _ (w .1) in
     let codes : length (k .codes) ≡ 2 * (n .faces) = eqb-true _ _ (t .0) in
-    let values : length (k .values) ≡ 4 * (n .faces) = eqb-true _ _ (t .1) in
-    let none = none-lower (lowestBadFace (n .cells) (m .adjacency)) (lowestUnknownCode (k .codes)) (nothing-at 4 _ (mesh .0)) in
-    let linked : NamesBadLink (m .adjacency) (k .codes) Nothing = subst (NamesBadLink (m .adjacency) (k .codes)) (nothing-at 6 (c .link) (mesh .1)) (c .names) in (
-      coupled-by m (n .cells) (n .faces) (length (responses .values)) outs (eqb-true _ _ (v .1)) o (coupled n m (u .0) (none .0)),
-      record { codes = omega (arith, codes, o); values = omega (arith, values, o); peers = λ f l. peer-below (m .adjacency) (k .codes) outs f (omega (arith, codes, o)) (links-in (m .adjacency) (k .codes) linked f (omega (arith, codes, o, l))) },
+    let values : length (k .values) ≡ 4 * (n .faces) = eqb-true _ _ (t .1) in (
+      coupled-by m (n .cells) (n .faces) (length (responses .values)) outs (eqb-true _ _ (v .1)) o (coupled n m (u .0) (linked .0)),
+      record { codes = omega (arith, codes, o); values = omega (arith, values, o); peers = λ f l. peer-below (m .adjacency) (k .codes) outs f (omega (arith, codes, o)) (linked .1 f (omega (arith, codes, o, l))) },
       o,
+    )
+
+pub correction-passed : (n : Counts) (adjacency : List ℕ) (k : Conditions) (l : Fields) (outs : ℕ) (r : Answer) → CorrectionChecked n adjacency k l outs r → r ≡ Accepted
+    → Correctable (correctingBy adjacency k l) × (outs ≡ length (l .predicted .values)) × (length (l .predicted .values) ≡ n .faces)
+unfolding correctionChecks
+correction-passed n adjacency k l outs r c e =
+    let bound = conditionsSized (n .faces) (k .codes) (k .values) in
+    let sized = everyOf bound (correctionSizes n adjacency l outs) in
+    let same = everyOf (eqb (k .number) (n .mesh)) (fieldNumbers n l) in
+    let both = both-accepted (shape (sizesOk n) sized same) (links (n .cells) adjacency (k .codes) (c .link)) (sym (c .is) ∙ e) in
+    let linked = links-passed (n .cells) adjacency (k .codes) (c .link) (c .names) (both .1) in
+    let s = shape-accepted (sizesOk n) sized same (both .0) in
+    let w = every-at bound (correctionSizes n adjacency l outs) (s .1) in
+    let t = and-true (eqb (length (k .codes)) (2 * (n .faces))) (eqb (length (k .values)) (4 * (n .faces))) (w .0) in
+    let a : length adjacency ≡ 2 * (n .faces) = eqb-true _ _ (w .1 0) in
+    let p : length (l .predicted .values) ≡ n .faces = eqb-true _ _ (w .1 1) in
+    let x : length (l .correction .values) ≡ n .cells = eqb-true _ _ (w .1 3) in
+    let codes : length (k .codes) ≡ 2 * (n .faces) = eqb-true _ _ (t .0) in
+    let values : length (k .values) ≡ 4 * (n .faces) = eqb-true _ _ (t .1) in (
+      record {
+        adjacency = omega (arith, a, p);
+        codes = omega (arith, codes, p);
+        values = omega (arith, values, p);
+        coefficients = eqb-true _ _ (w .1 2) ∙ sym p;
+        sides = λ f h. rw x (linked .0 f (omega (arith, a, p, h)));
+        peers = λ f h. peer-below adjacency (k .codes) (length (l .predicted .values)) f (omega (arith, codes, p)) (linked .1 f (omega (arith, codes, p, h)));
+        links = λ f h some. linked .1 f (omega (arith, codes, p, h)) some .one-cell;
+      },
+      eqb-true _ _ (w .1 4) ∙ sym p,
+      p,
     )
 
 -- ---- the outflows and their metrics
@@ -176,7 +214,7 @@ prediction-passed n m stencil records s l slopes outs h =
     let y : length (l .velocity .values) ≡ 3 * (n .cells) = eqb-true _ _ (u .0) in
     record {
       sloped = slopes-by (n .cells) records s (l .pressure .values) (v .1) p (nothing-at 5 _ (mesh .1));
-      coupled = coupled-by m (n .cells) (n .faces) (length (l .pressure .values)) (length (l .walls .values)) p x (coupled n m (v .0) (nothing-at 4 _ (mesh .0)));
+      coupled = coupled-by m (n .cells) (n .faces) (length (l .pressure .values)) (length (l .walls .values)) p x (coupled n m (v .0) (faces-in (n .cells) (m .adjacency) (nothing-at 4 _ (mesh .0))));
       velocity = omega (arith, y, p);
       gradient = omega (arith, g, p);
       responses = r ∙ sym p;

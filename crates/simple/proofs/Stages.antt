@@ -26,6 +26,14 @@ unfolding handedOut
 handed Accepted n l new h = h refl
 handed (Refused k i) n l new h = refl
 
+pub never-accepted : (k i : ℕ) → Refused k i ≡ Accepted → ⊥
+never-accepted k i e = let z : _≡_ {A = ℕ} 0 1 = cc in absurd (omega arith)
+
+-- what is handed out, where the answer is known to accept
+pub handed-out : (a : Answer) (n : ℕ) (l : List Float) → a ≡ Accepted → handedOut a n l ≡ l
+unfolding handedOut
+handed-out a n l e = rw e
+
 -- what a pass that answers a, and leaves `new`, hands out once it is settled
 pub settled : (a : Answer) (l : List Float) (n : ℕ) (b r : Answer) (new out : List Float) → Passes a l b new → length new ≡ n → r ≡ b → out ≡ handedOut b (length new) new → (r ≡ a) × (out ≡ handedOut r n l)
 settled a l n b r new out p e s o = (s ∙ p .0, rw s (o ∙ ap (λ (k : ℕ). handedOut b k new) e ∙ handed b n l new (p .1)))

@@ -6,5 +6,6 @@ pub mod Boundary
 pub mod Prediction
 pub mod Correction
 pub mod Promise
+pub mod Corrected
 pub mod Velocity
 pub mod Metrics

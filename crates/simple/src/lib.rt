@@ -1,6 +1,6 @@
 // Coupling of pressure and velocity: the response of the momentum equation, the coefficients of the
-// faces, the predicted flux, the corrected velocity and the metrics of continuity. A number that
-// stands before a slice is the mesh number of that slice.
+// faces, the predicted and the corrected flux, the corrected velocity and the metrics of continuity.
+// A number that stands before a slice is the mesh number of that slice.
 ghost use mathlib.Core.Path.{_≡_};
 ghost use lib.ListN.{length};
 ghost use Prim.Native.Nat.{_+_, _≤_};
@@ -13,6 +13,7 @@ ghost use Rattle.mesh.specs.declared.chain.Form.the-variants.{Single};
 ghost use Rattle.numerics.specs.Checks.{slices};
 ghost use Rattle.simple.specs.Boundary.{LinksChecked, BoundaryChecked, BoundaryCall};
 ghost use Rattle.simple.specs.Coefficients.{coefficientChecks, coefficientAnswer, coefficients};
+ghost use Rattle.simple.specs.Corrected.{fields, CorrectionChecked, CorrectionCall, Promised};
 ghost use Rattle.simple.specs.Diagonal.{diagonalChecks, inverseAnswer, inverses};
 ghost use Rattle.simple.specs.Grid.{grid, field, gridSized};
 ghost use Rattle.simple.specs.Metrics.{metricsChecks, MetricsCall};
@@ -342,6 +343,87 @@ pub fn rhie_chow_predicted_flux(
             responses,
             walls,
             gradient,
+            out,
+        ),
+        Answer::Refused(k, i) => Answer::Refused(k, i),
+    }
+}
+
+fn check_correction(
+    counts: Counts,
+    adjacency: &[usize],
+    number: u64,
+    codes: &[usize],
+    values: &[f64],
+    prediction: u64,
+    predicted: &[f64],
+    coefficient: u64,
+    coefficients: &[f64],
+    correction: u64,
+    corrections: &[f64],
+    outs: usize,
+) -> Answer
+    ensures { λ r. ⌜ CorrectionChecked counts (now (adjacency .entry)) (conditions number (now (codes .entry)) (now (values .entry))) (fields (field prediction (now (predicted .entry))) (field coefficient (now (coefficients .entry))) (field correction (now (corrections .entry)))) outs r ⌝ }
+{
+    let sized = mesh::conditions_sized(counts.faces, codes, values)
+        & mesh::is_sized(adjacency.len(), 2, counts.faces)
+        & (predicted.len() == counts.faces)
+        & (coefficients.len() == counts.faces)
+        & (corrections.len() == counts.cells)
+        & (outs == counts.faces);
+    let same = (number == counts.mesh)
+        & (prediction == counts.mesh)
+        & (coefficient == counts.mesh)
+        & (correction == counts.mesh);
+    let a = mesh::shape(mesh::sizes_ok(counts), sized, same);
+    match a {
+        Answer::Accepted => check_links(counts.cells, adjacency, codes),
+        Answer::Refused(k, i) => Answer::Refused(k, i),
+    }
+}
+
+// The predicted flux of each face less its coefficient times the difference of the corrections on
+// its two sides; an unlinked one-cell zero-gradient face keeps its flux. `number` is the mesh number
+// of the conditions.
+pub fn correct_face_flux_with_boundary(
+    counts: Counts,
+    adjacency: &[usize],
+    number: u64,
+    codes: &[usize],
+    values: &[f64],
+    prediction: u64,
+    predicted: &[f64],
+    coefficient: u64,
+    coefficients: &[f64],
+    correction: u64,
+    corrections: &[f64],
+    out: &mut [f64],
+) -> Answer
+    ensures { λ r. ⌜ CorrectionCall counts (now (adjacency .entry)) (conditions number (now (codes .entry)) (now (values .entry))) (fields (field prediction (now (predicted .entry))) (field coefficient (now (coefficients .entry))) (field correction (now (corrections .entry)))) (now (out .entry)) r (now (out .exit)) ⌝ }
+    ensures { λ r. ⌜ Promised r (now (adjacency .entry)) (conditions number (now (codes .entry)) (now (values .entry))) (fields (field prediction (now (predicted .entry))) (field coefficient (now (coefficients .entry))) (field correction (now (corrections .entry)))) (now (out .exit)) ⌝ }
+{
+    let a = check_correction(
+        counts,
+        adjacency,
+        number,
+        codes,
+        values,
+        prediction,
+        predicted,
+        coefficient,
+        coefficients,
+        correction,
+        corrections,
+        out.len(),
+    );
+    match a {
+        Answer::Accepted => inner::correction::correct_face_flux(
+            adjacency,
+            codes,
+            values,
+            predicted,
+            coefficients,
+            corrections,
             out,
         ),
         Answer::Refused(k, i) => Answer::Refused(k, i),

@@ -11,29 +11,31 @@ use lib.Ieee.Scale.{finite}
 use borrow.Author.Tests.{not-false}
 use Rattle.binary64.specs.Numbers.{isFinite}
 use Rattle.mesh.specs.Answers.{orElse, firstOf}
-use Rattle.mesh.specs.Pass.{valueOf}
-use Rattle.mesh.specs.Records.{secondAt}
+use Rattle.mesh.specs.Pass.{unless}
 use Rattle.mesh.specs.Search.{lowestWhere}
+use Rattle.mesh.specs.declared.Answer.{Answer}
 use Rattle.mesh.specs.declared.Answer.the-variants.{Accepted}
 use Rattle.mesh.specs.declared.Found.{Found}
 use Rattle.mesh.specs.declared.Found.the-variants.{Nothing, At}
-use Rattle.mesh.proofs.Facts.{both-accepted, peer-below}
+use Rattle.mesh.proofs.Facts.{both-accepted}
 use Rattle.mesh.proofs.Search.{none-below}
-use Rattle.mesh.proofs.Values.{length-listOf, getD-listOf, value-at}
+use Rattle.mesh.proofs.Values.{value-at}
 use Rattle.numerics.specs.Checks.{lentOf}
-use Rattle.numerics.specs.Outflow.{Flows, outflows, facesOf}
+use Rattle.numerics.specs.Outflow.{facesOf}
 use Rattle.numerics.specs.Stencil.{stencilAnswer}
 use Rattle.balance.proofs.Closes.{balances}
 use Rattle.balance.specs.Balance.{Balanced}
-use Rattle.simple.specs.Boundary.{boundsOf, boundaryAnswer, coefficientAt}
-use Rattle.simple.specs.Correction.{Correctable, correctedFluxAt, correctionAnswer, correctedFluxes}
+use Rattle.simple.specs.Boundary.{boundsOf, boundaryAnswer}
+use Rattle.simple.specs.Correction.{correctedFluxAt, correctionAnswer}
 use Rattle.simple.specs.Metrics.{metricsOf, metricsAnswer}
-use Rattle.simple.specs.Prediction.{predictedAt, predictionAnswer}
+use Rattle.simple.specs.Prediction.{predictionAnswer}
 use Rattle.simple.specs.Promise.{Boundary, Promise, boundaryOf}
 use Rattle.simple.proofs.Promised.{promised, withGiven, carried}
 use Rattle.step.specs.Step.{Given, Lendable, gridOf, flowOf, predictedOf, coefficientsOf, correctingOf, fluxesOf, outflowsOf, spilled, endless, finiteAnswer, workAnswer}
+use Rattle.step.specs.Call.{Handed, cleared, results}
 use Rattle.step.specs.Demand.{wallsOf, DemandThree}
 use Rattle.step.proofs.Fitting.{value-fits}
+use Rattle.step.proofs.Parts.{predicted-size, fluxes-size, wall-kept, below, correctable, flows}
 
 nothing-spilled : (f : Found) → spilled f ≡ Accepted → f ≡ Nothing
 unfolding spilled
@@ -46,35 +48,6 @@ module _ (d : Given) (ready : Lendable d) where
 
   abbrev cells : ℕ
   cells = d .mesh .counts .cells
-
-  predicted-size : length (predictedOf d) ≡ faces
-  predicted-size = length-listOf (λ (i : ℕ). valueOf (predictedAt (gridOf d) (flowOf d) (d .walls .values) i)) (length (d .walls .values)) ∙ ready .walls
-
-  coefficients-size : length (coefficientsOf d) ≡ faces
-  coefficients-size = length-listOf (λ (i : ℕ). valueOf (coefficientAt (gridOf d) (boundsOf (d .conditions)) (d .responses .values) i)) faces
-
-  fluxes-size : length (fluxesOf d) ≡ faces
-  fluxes-size = length-listOf (λ (i : ℕ). valueOf (correctedFluxAt (correctingOf d) i)) (length (predictedOf d)) ∙ predicted-size
-
-  -- a one-cell face's predicted flux is its wall flux
-  wall-kept : (f : ℕ) → f < faces → secondAt (d .mesh .adjacency) f ≡ 0 → getD (predictedOf d) f nan ≡ getD (d .walls .values) f nan
-  unfolding predictedAt valueOf
-  wall-kept f l e =
-      getD-listOf (λ (i : ℕ). valueOf (predictedAt (gridOf d) (flowOf d) (d .walls .values) i)) (length (d .walls .values)) f (omega (arith, l, ready .walls)) ∙ rw e
-
-  below : (f : ℕ) → f < length (predictedOf d) → f < faces
-  below f l = subst (λ (n : ℕ). f < n) predicted-size l
-
-  correctable : Correctable (correctingOf d)
-  correctable = record {
-    adjacency = omega (arith, ready .good .sized .adjacency, predicted-size);
-    codes = omega (arith, ready .good .codes, predicted-size);
-    values = omega (arith, ready .good .values, predicted-size);
-    coefficients = coefficients-size ∙ sym predicted-size;
-    sides = λ f l. rw (ready .correction) (ready .good .sound .faces f (below f l));
-    peers = λ f l. rw predicted-size (peer-below (d .mesh .adjacency) (d .conditions .codes) faces f (ready .good .codes) (ready .good .sound .links f (below f l)));
-    links = λ f l n. ready .good .sound .links f (below f l) n .one-cell;
-  }
 
   module _ (fit : (f : ℕ) → f < length (d .walls .values) → T (fits binary64 (getD (d .walls .values) f nan))) (ok : workAnswer d ≡ Accepted) where
     corrected-ok : correctionAnswer (correctingOf d) ≡ Accepted
@@ -103,18 +76,15 @@ module _ (d : Given) (ready : Lendable d) where
     -- every flux is a value of binary64
     fluxes-fit : (f : ℕ) → f < length (fluxesOf d) → T (fits binary64 (getD (fluxesOf d) f nan))
     fluxes-fit f l =
-        let h : f < length (predictedOf d) = omega (arith, l, fluxes-size, predicted-size) in
+        let h : f < length (predictedOf d) = omega (arith, l, fluxes-size d ready, predicted-size d ready) in
         let w = value-at (correctedFluxAt (correctingOf d)) (length (predictedOf d)) f corrected-ok h in
         subst (λ (x : Float). T (fits binary64 x)) (sym (w .2))
-        (value-fits (correctingOf d) f (w .0) (λ e. subst (λ (x : Float). T (fits binary64 x)) (sym (wall-kept f (below f h) e)) (fit f (omega (arith, below f h, ready .walls)))) (w .1))
-
-    flows : Flows cells (d .mesh .adjacency) (fluxesOf d)
-    flows = record { size = omega (arith, ready .good .sized .adjacency, fluxes-size); faces = λ f l. ready .good .sound .faces f (omega (arith, l, fluxes-size)) }
+        (value-fits (correctingOf d) f (w .0) (λ e. subst (λ (x : Float). T (fits binary64 x)) (sym (wall-kept d ready f (below d ready f h) e)) (fit f (omega (arith, below d ready f h, ready .walls)))) (w .1))
 
     kept : Promise (wallsOf d) (fluxesOf d)
     kept =
-        subst (λ (n : ℕ). Promise (sized n) (fluxesOf d)) predicted-size
-        (carried (boundaryOf (correctingOf d)) (λ (f : ℕ). getD (d .walls .values) f nan) (fluxesOf d) (λ f l e. wall-kept f (below f l) e) (λ f l n. correctable .links f l n) (promised (correctingOf d) correctable corrected-ok))
+        subst (λ (n : ℕ). Promise (sized n) (fluxesOf d)) (predicted-size d ready)
+        (carried (boundaryOf (correctingOf d)) (λ (f : ℕ). getD (d .walls .values) f nan) (fluxesOf d) (λ f l e. wall-kept d ready f (below d ready f l) e) (λ f l n. correctable d ready .links f l n) (promised (correctingOf d) (correctable d ready) corrected-ok))
       where
         sized : ℕ → Boundary
         sized n = record { faces = n; neighbour = wallsOf d .neighbour; peer = wallsOf d .peer; code = wallsOf d .code; given = wallsOf d .given; coefficient = wallsOf d .coefficient }
@@ -122,6 +92,14 @@ module _ (d : Given) (ready : Lendable d) where
     pub demanded : DemandThree d (fluxesOf d) (outflowsOf d)
     demanded = record {
       finite-outflows = finite-outflows;
-      balanced = subst (λ (n : ℕ). Balanced (facesOf (d .mesh .adjacency) (fluxesOf d)) n (outflowsOf d)) fluxes-size (balances cells (d .mesh .adjacency) (fluxesOf d) flows fluxes-fit finite-outflows);
+      balanced = subst (λ (n : ℕ). Balanced (facesOf (d .mesh .adjacency) (fluxesOf d)) n (outflowsOf d)) (fluxes-size d ready) (balances cells (d .mesh .adjacency) (fluxesOf d) (flows d ready) fluxes-fit finite-outflows);
       kept = kept;
     }
+
+-- what an accepted step hands out meets it
+module _ (d : Given) (ready : Lendable d) (fit : (f : ℕ) → f < length (d .walls .values) → T (fits binary64 (getD (d .walls .values) f nan))) where
+  pub delivered : (r : Answer) (old new : Handed) → r ≡ workAnswer d → new ≡ unless r (cleared old) (results d) → r ≡ Accepted → DemandThree d (new .flux) (new .outflow)
+  unfolding unless
+  delivered r old new h e ok =
+      let out : new ≡ results d = e ∙ rw ok in
+      subst (λ (h : Handed). DemandThree d (h .flux) (h .outflow)) (sym out) (demanded d ready fit (sym h ∙ ok))

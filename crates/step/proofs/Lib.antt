@@ -1,4 +1,6 @@
--- What an accepted step promises is proved of its definition.
+-- What the parts of the step ask for, and what an accepted step promises.
 pub mod Fitting
+pub mod Passed
+pub mod Parts
 pub mod Demanded
 pub mod Exemplified

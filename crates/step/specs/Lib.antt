@@ -1,3 +1,4 @@
 pub mod Step
+pub mod Call
 pub mod Demand
 pub mod Examples

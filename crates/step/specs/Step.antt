@@ -7,7 +7,7 @@ use lib.ListN.{length, getD}
 use lib.Ieee.{Float, nan}
 use Rattle.binary64.specs.Numbers.{isFinite}
 use Rattle.mesh.specs.Answers.{firstOf}
-use Rattle.mesh.specs.Mesh.{Mesh, Conditions, Good}
+use Rattle.mesh.specs.Mesh.{Mesh, Conditions, conditions, Good}
 use Rattle.mesh.specs.Search.{lowestWhere}
 use Rattle.mesh.specs.declared.Answer.{Answer}
 use Rattle.mesh.specs.declared.Answer.the-variants.{Accepted, Refused}
@@ -19,7 +19,7 @@ use Rattle.numerics.specs.Outflow.{outflows}
 use Rattle.numerics.specs.Stencil.{stencilAnswer, stencilStarts, stencilEquations, stencilWeights, stencilInverses}
 use Rattle.simple.specs.Boundary.{boundsOf, boundaryAnswer, boundaryCoefficients}
 use Rattle.simple.specs.Correction.{Correcting, correcting, correctionAnswer, correctedFluxes}
-use Rattle.simple.specs.Grid.{Grid, grid, Field}
+use Rattle.simple.specs.Grid.{Grid, grid, Field, field}
 use Rattle.simple.specs.Metrics.{metricsOf, metricsAnswer}
 use Rattle.simple.specs.Prediction.{Flow, flow, predictionAnswer, predictedFluxes}
 
@@ -33,6 +33,16 @@ pub record Given : Type 0 where
   pub responses : Field
   pub walls : Field
   pub correction : Field
+
+abbrev pub given : Mesh → Conditions → ℕ → Field → Field → Field → Field → Field → Given
+given m k n v p r w x =
+    record { mesh = m; conditions = k; records = n; velocity = v; pressure = p; responses = r; walls = w; correction = x }
+
+-- conditions and fields that have the mesh's number
+abbrev pub alike : Mesh → List ℕ → List Float → ℕ → List Float → List Float → List Float → List Float → List Float → Given
+alike m codes values records v p r w x =
+    let n = m .counts .mesh in
+    given m (conditions n codes values) records (field n v) (field n p) (field n r) (field n w) (field n x)
 
 abbrev pub gridOf : Given → Grid
 gridOf d = grid (d .mesh .adjacency) (d .mesh .geometry) (d .mesh .places)

@@ -1,0 +1,82 @@
+-- `simple::check_correction` meets its contract: the checks of shape, then 4 and 6.
+use Rattle.simple.specs.Corrected.{correctionChecks}
+use Rattle.mesh.proofs.Search.{names-lowest}
+use Rattle.mesh.specs.Search.{lowestWhere}
+use Rattle.mesh.specs.Checks.{badLink}
+use Rattle.mesh.specs.Answers.{orElse}
+use denote.Ref.{now}
+use lib.ListN.{length}
+use Prim.Native.Nat.{_/_}
+use borrow.Author.Needs.{needs}
+use Rattle.simple.proofs.check_correction.Statement.{statement}
+use Rattle.simple.proofs.check_correction.Tie as tie
+
+abbrev startAt : tie.After-conditions-sized → tie.Start
+startAt c = search
+
+abbrev sizedAt : tie.After-shape → tie.After-is-sized
+sizedAt c = search
+
+conditions-sized-requires : tie.Need-conditions-sized-requires
+conditions-sized-requires c κs = search needs
+
+is-sized-requires : tie.Need-is-sized-requires
+is-sized-requires c κs = search needs
+
+sizes-ok-requires : tie.Need-sizes-ok-requires
+sizes-ok-requires c κs = search needs
+
+shape-requires : tie.Need-shape-requires
+shape-requires c κs = search needs
+
+enum-told : tie.Need-enum-told
+enum-told c = search needs
+
+check-links-requires : tie.Need-check-links-requires
+check-links-requires c κs = search needs
+
+enum-known-a : tie.Need-enum-known-a
+enum-known-a c = search needs
+
+returns : tie.Need-returns
+unfolding correctionChecks orElse
+returns c =
+    let z : tie.After-sizes-ok = search in
+    let k : tie.After-conditions-sized = search in
+    let w : tie.After-is-sized = search in
+    let h : tie.After-shape = search in
+    let e : tie.After-enum-told = search in
+    let l = c .check-links .ensures in
+    record {
+      link = l .link;
+      names = l .names;
+      is = rw (← z .sizes-ok .ensures, ← k .conditions-sized .ensures, ← w .is-sized .ensures, ← h .shape .ensures, e .enum-told .given .1) (l .is);
+    }
+
+returns-2 : tie.Need-returns-2
+unfolding correctionChecks orElse
+returns-2 c =
+    let z : tie.After-sizes-ok = search in
+    let k : tie.After-conditions-sized = search in
+    let s = startAt k in
+    let h : tie.After-shape = search in
+    let w = sizedAt h in
+    record {
+      link = lowestWhere (badLink (now (s .args .adjacency)) (now (s .args .codes))) (length (now (s .args .codes)) / 2);
+      names = names-lowest (badLink (now (s .args .adjacency)) (now (s .args .codes))) (length (now (s .args .codes)) / 2);
+      is = rw (← z .sizes-ok .ensures, ← k .conditions-sized .ensures, ← w .is-sized .ensures, ← h .shape .ensures, c .before .a .given .1);
+    }
+
+pub check-correction-spec : {M : Type 1} → statement M
+check-correction-spec =
+    tie.close
+    (tie.spec
+    conditions-sized-requires
+    is-sized-requires
+    sizes-ok-requires
+    shape-requires
+    enum-told
+    check-links-requires
+    enum-known-a
+    returns
+    returns-2)

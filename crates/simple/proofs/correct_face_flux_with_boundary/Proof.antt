@@ -1,0 +1,85 @@
+-- `simple::correct_face_flux_with_boundary` meets its contract: the checks, and after them the work.
+use Rattle.simple.proofs.Checked.{correction-passed}
+use Rattle.simple.proofs.Promised.{promised}
+use Rattle.simple.proofs.Stages.{handed-out, never-accepted}
+use Rattle.simple.specs.Grid.{field}
+use Rattle.simple.specs.Correction.{correctedFluxes}
+use Rattle.simple.specs.Corrected.{Fields, fields, correctingBy}
+use Rattle.simple.specs.Promise.{Promise, boundaryOf}
+use Rattle.mesh.specs.Pass.{handedOut, unless}
+use Rattle.mesh.specs.Mesh.{Conditions, conditions}
+use Rattle.mesh.specs.Answers.{orElse}
+use denote.Ref.{now}
+use lib.ListN.{length}
+use lib.Ieee.{Float}
+use Prim.Native.Nat.{ℕ}
+use mathlib.Core.List.{List}
+use mathlib.Core.Path.{_≡_, sym, _∙_, ap, subst}
+use borrow.Author.Needs.{needs}
+use Rattle.simple.proofs.correct_face_flux_with_boundary.Statement.{statement}
+use Rattle.simple.proofs.correct_face_flux_with_boundary.Tie as tie
+
+abbrev conditionsAt : tie.Start → Conditions
+conditionsAt s = conditions (s .args .number) (now (s .args .codes)) (now (s .args .values))
+
+abbrev fieldsAt : tie.Start → Fields
+fieldsAt s = fields (field (s .args .prediction) (now (s .args .predicted))) (field (s .args .coefficient) (now (s .args .coefficients))) (field (s .args .correction) (now (s .args .corrections)))
+
+check-correction-requires : tie.Need-check-correction-requires
+check-correction-requires c κs = search needs
+
+enum-told : tie.Need-enum-told
+enum-told c = search needs
+
+correct-face-flux-requires : tie.Need-correct-face-flux-requires
+correct-face-flux-requires c κs =
+    let s : tie.Start = search in
+    let k : tie.After-check-correction = search in
+    let e : tie.After-enum-told = search in
+    let p = correction-passed (s .args .counts) (now (s .args .adjacency)) (conditionsAt s) (fieldsAt s) (length (now (s .args .out))) (k .check-correction .result) (k .check-correction .ensures) (e .enum-told .given .1) in
+    (p .0, p .1)
+
+enum-known-a : tie.Need-enum-known-a
+enum-known-a c = search needs
+
+same-length : tie.Need-same-length
+same-length c = search needs
+
+returns : tie.Need-returns
+unfolding orElse unless
+returns c =
+    let s : tie.Start = search in
+    let k : tie.After-check-correction = search in
+    let e : tie.After-enum-told = search in
+    let w : tie.After-correct-face-flux = search in
+    let a = sym (k .check-correction .ensures .is) ∙ e .enum-told .given .1 in
+    let m = correctingBy (now (s .args .adjacency)) (conditionsAt s) (fieldsAt s) in
+    let p = correction-passed (s .args .counts) (now (s .args .adjacency)) (conditionsAt s) (fieldsAt s) (length (now (s .args .out))) (k .check-correction .result) (k .check-correction .ensures) (e .enum-told .given .1) in
+    let x = w .correct-face-flux .ensures in (
+      record {
+        link = k .check-correction .ensures .link;
+        names = k .check-correction .ensures .names;
+        answer = rw a (x .0);
+        out = rw a (x .1 ∙ ap (λ (n : ℕ). handedOut (w .correct-face-flux .result) n (correctedFluxes m)) (p .2));
+      },
+      λ ok. subst (Promise (boundaryOf m)) (sym (x .1 ∙ handed-out _ _ _ ok)) (promised m (p .0) (sym (x .0) ∙ ok)),
+    )
+
+returns-2 : tie.Need-returns-2
+unfolding orElse unless
+returns-2 c =
+    let k : tie.After-check-correction = search in
+    let a = sym (k .check-correction .ensures .is) ∙ c .before .a .given .1 in
+    (record { link = k .check-correction .ensures .link; names = k .check-correction .ensures .names; answer = rw a; out = rw a }, λ ok. absurd (never-accepted _ _ ok))
+
+pub correct-face-flux-with-boundary-spec : {M : Type 1} → statement M
+correct-face-flux-with-boundary-spec =
+    tie.close
+    (tie.spec
+    check-correction-requires
+    enum-told
+    correct-face-flux-requires
+    enum-known-a
+    same-length
+    returns
+    returns-2)

@@ -1,0 +1,73 @@
+-- The entry that corrects the flux of every face: its checks, its answer, and what its output holds. Definitions only.
+use mathlib.Core.Path.{_≡_}
+use mathlib.Core.List.{List, [], _∷_}
+use mathlib.Core.Bool.{Bool}
+use Prim.Native.Nat.{ℕ, _*_}
+use lib.Dec.{eqb}
+use lib.ListN.{length}
+use lib.Ieee.{Float}
+use Rattle.mesh.specs.Answers.{orElse, shape}
+use Rattle.mesh.specs.Checks.{sizesOk, NamesBadLink}
+use Rattle.mesh.specs.Mesh.{Conditions, conditionsSized}
+use Rattle.mesh.specs.Pass.{handedOut, unless}
+use Rattle.mesh.specs.Search.{everyOf}
+use Rattle.mesh.specs.declared.Answer.{Answer}
+use Rattle.mesh.specs.declared.Answer.the-variants.{Accepted}
+use Rattle.mesh.specs.declared.Counts.{Counts}
+use Rattle.mesh.specs.declared.Found.{Found}
+use Rattle.simple.specs.Boundary.{links}
+use Rattle.simple.specs.Correction.{Correcting, correcting, correctionAnswer, correctedFluxes}
+use Rattle.simple.specs.Grid.{Field}
+use Rattle.simple.specs.Promise.{Promise, boundaryOf}
+
+-- the lent fields
+pub record Fields : Type 0 where
+  pub predicted : Field
+  pub coefficients : Field
+  pub correction : Field
+
+abbrev pub fields : Field → Field → Field → Fields
+fields p k x = record { predicted = p; coefficients = k; correction = x }
+
+abbrev pub correctingBy : List ℕ → Conditions → Fields → Correcting
+correctingBy adjacency k l =
+    correcting adjacency (k .codes) (k .values) (l .predicted .values) (l .coefficients .values) (l .correction .values)
+
+-- 2 of the adjacency, the fields and the output, which has so many numbers; 3 of the fields
+abbrev pub correctionSizes : Counts → List ℕ → Fields → ℕ → List Bool
+correctionSizes n adjacency l outs =
+    eqb (length adjacency) (2 * (n .faces))
+    ∷ eqb (length (l .predicted .values)) (n .faces)
+    ∷ eqb (length (l .coefficients .values)) (n .faces)
+    ∷ eqb (length (l .correction .values)) (n .cells)
+    ∷ eqb outs (n .faces)
+    ∷ []
+
+abbrev pub fieldNumbers : Counts → Fields → List Bool
+fieldNumbers n l = eqb (l .predicted .number) (n .mesh) ∷ eqb (l .coefficients .number) (n .mesh) ∷ eqb (l .correction .number) (n .mesh) ∷ []
+
+-- 1 to 4, and 6, of what it is lent
+unfoldable pub correctionChecks : Counts → List ℕ → Conditions → Fields → ℕ → Found → Answer
+correctionChecks n adjacency k l outs link =
+    orElse
+    (shape (sizesOk n)
+    (everyOf (conditionsSized (n .faces) (k .codes) (k .values)) (correctionSizes n adjacency l outs))
+    (everyOf (eqb (k .number) (n .mesh)) (fieldNumbers n l)))
+    (links (n .cells) adjacency (k .codes) link)
+
+pub record CorrectionChecked (n : Counts) (adjacency : List ℕ) (k : Conditions) (l : Fields) (outs : ℕ) (r : Answer) : Type 0 where
+  pub link : Found
+  pub names : NamesBadLink adjacency (k .codes) link
+  pub is : r ≡ correctionChecks n adjacency k l outs link
+
+-- the answer, and what the output holds after the call: untouched where a check refuses, +0.0 where arithmetic does
+pub record CorrectionCall (n : Counts) (adjacency : List ℕ) (k : Conditions) (l : Fields) (old : List Float) (r : Answer) (new : List Float) : Type 0 where
+  pub link : Found
+  pub names : NamesBadLink adjacency (k .codes) link
+  pub answer : r ≡ orElse (correctionChecks n adjacency k l (length old) link) (correctionAnswer (correctingBy adjacency k l))
+  pub out :
+      new ≡ unless (correctionChecks n adjacency k l (length old) link) old (handedOut r (n .faces) (correctedFluxes (correctingBy adjacency k l)))
+
+-- kept and opposite fluxes, of an accepted call
+abbrev pub Promised : Answer → List ℕ → Conditions → Fields → List Float → Type 0
+Promised r adjacency k l new = r ≡ Accepted → Promise (boundaryOf (correctingBy adjacency k l)) new

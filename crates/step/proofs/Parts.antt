@@ -1,0 +1,219 @@
+-- What each part of the step asks for, from what the checks of the whole establish. Assumes nothing.
+use mathlib.Core.Path.{_≡_, refl, sym, ap, _∙_, subst}
+use mathlib.Core.List.{List, [], _∷_}
+use Prim.Native.Nat.{ℕ, _*_, _<_}
+use native.Mathlib.Omega.{arith}
+use lib.ListN.{length, getD}
+use lib.Ieee.{Float, nan}
+use Rattle.mesh.specs.Answers.{orElse, firstOf}
+use Rattle.mesh.specs.Pass.{valueOf}
+use Rattle.mesh.specs.Records.{secondAt}
+use Rattle.mesh.specs.declared.Answer.{Answer}
+use Rattle.mesh.specs.declared.Answer.the-variants.{Accepted, Refused}
+use Rattle.mesh.proofs.Facts.{peer-below}
+use Rattle.mesh.proofs.Values.{length-listOf, getD-listOf}
+use Rattle.numerics.specs.Checks.{slices, lentOf}
+use Rattle.numerics.specs.Gradient.{Sloped, gradients}
+use Rattle.numerics.specs.Lent.{Lent, Good}
+use Rattle.numerics.specs.Outflow.{Flows, outflows}
+use Rattle.numerics.specs.Stencil.{stencilAnswer, stencilStarts, stencilEquations}
+use Rattle.numerics.proofs.Good.{lent-good}
+use Rattle.numerics.proofs.inner.stencil.Sound.{accepted-sound}
+use Rattle.simple.specs.Boundary.{Bounded, boundsOf, boundaryAnswer, boundaryCoefficients, coefficientAt}
+use Rattle.simple.specs.Correction.{Correcting, correcting, Correctable, correctedFluxAt, correctionAnswer, correctedFluxes}
+use Rattle.simple.specs.Grid.{Coupled}
+use Rattle.simple.specs.Metrics.{metricsOf, metricsAnswer, metricsNumbers}
+use Rattle.simple.specs.Prediction.{Flow, flow, Flowing, predictedAt, predictionAnswer, predictedFluxes}
+use Rattle.step.specs.Call.{Handed, cleared}
+use Rattle.step.specs.Step.{Given, Lendable, gridOf, stencilOf, gradientOf, flowOf, predictedOf, coefficientsOf, correctingOf, fluxesOf, outflowsOf, finiteAnswer, workAnswer}
+
+-- a correction asks nothing of the coefficients but how many they are
+pub with-coefficients : (a c : List ℕ) (v p k l x : List Float) → length l ≡ length k → Correctable (correcting a c v p k x) → Correctable (correcting a c v p l x)
+with-coefficients a c v p k l x e m = record {
+  adjacency = m .adjacency;
+  codes = m .codes;
+  values = m .values;
+  coefficients = e ∙ m .coefficients;
+  sides = m .sides;
+  peers = m .peers;
+  links = m .links;
+}
+
+-- ---- the stencil
+
+pub same-slices : (s t e f : List ℕ) (w x i j : List Float) → s ≡ t → e ≡ f → w ≡ x → i ≡ j → slices s e w i ≡ slices t f x j
+same-slices s t e f w x i j es ee ew ei = rw (es, ee, ew, ei)
+
+-- one that was accepted serves for a gradient
+pub sloped : (m : Lent) (records : ℕ) (s e : List ℕ) (w i p : List Float) → Good m → stencilAnswer m records ≡ Accepted
+    → s ≡ stencilStarts m records → e ≡ stencilEquations m records
+    → length s ≡ m .counts .cells → length e ≡ 2 * records → length w ≡ 4 * records → length i ≡ 9 * (m .counts .cells) → length p ≡ m .counts .cells
+    → Sloped (slices s e w i) records p
+sloped m records s e w i p good ok es ee ls le lw li lp = record {
+  starts = ls ∙ sym lp;
+  equations = le;
+  weights = lw;
+  inverses = omega (arith, li, lp);
+  chains = λ c h. rw (es, ee, lp) (accepted-sound m records good (sym ok) c (omega (arith, h, lp)));
+}
+
+-- ---- the answers
+
+-- the six answers, two of each part
+pub regrouped : (a b c e f g : Answer) → firstOf (a ∷ b ∷ c ∷ e ∷ f ∷ g ∷ []) ≡ orElse (orElse a b) (orElse (orElse c e) (orElse f g))
+unfolding firstOf orElse
+regrouped (Refused k i) b c e f g = refl
+regrouped Accepted (Refused k i) c e f g = refl
+regrouped Accepted Accepted (Refused k i) e f g = refl
+regrouped Accepted Accepted Accepted (Refused k i) f g = refl
+regrouped Accepted Accepted Accepted Accepted (Refused k i) g = refl
+regrouped Accepted Accepted Accepted Accepted Accepted (Refused k i) = refl
+regrouped Accepted Accepted Accepted Accepted Accepted Accepted = refl
+
+pub same-handed : (a b : Handed) → a .starts ≡ b .starts → a .equations ≡ b .equations → a .weights ≡ b .weights → a .inverses ≡ b .inverses → a .gradient ≡ b .gradient
+    → a .predicted ≡ b .predicted → a .coefficients ≡ b .coefficients → a .flux ≡ b .flux → a .outflow ≡ b .outflow → a .metrics ≡ b .metrics → a ≡ b
+same-handed a b s e w i g p k f o m = rw (s, e, w, i, g, p, k, f, o, m)
+
+-- of cleared outputs only the lengths are left
+pub same-cleared : (a b : Handed) → length (a .starts) ≡ length (b .starts) → length (a .equations) ≡ length (b .equations) → length (a .weights) ≡ length (b .weights) → length (a .inverses) ≡ length (b .inverses)
+    → length (a .gradient) ≡ length (b .gradient) → length (a .predicted) ≡ length (b .predicted) → length (a .coefficients) ≡ length (b .coefficients) → length (a .flux) ≡ length (b .flux)
+    → length (a .outflow) ≡ length (b .outflow) → length (a .metrics) ≡ length (b .metrics) → cleared a ≡ cleared b
+same-cleared a b s e w i g p k f o m = rw (s, e, w, i, g, p, k, f, o, m)
+
+-- ---- the parts of one step
+
+module _ (d : Given) (ready : Lendable d) where
+  abbrev faces : ℕ
+  faces = d .mesh .counts .faces
+
+  abbrev cells : ℕ
+  cells = d .mesh .counts .cells
+
+  pub predicted-size : length (predictedOf d) ≡ faces
+  predicted-size = length-listOf (λ (i : ℕ). valueOf (predictedAt (gridOf d) (flowOf d) (d .walls .values) i)) (length (d .walls .values)) ∙ ready .walls
+
+  pub coefficients-size : length (coefficientsOf d) ≡ faces
+  coefficients-size = length-listOf (λ (i : ℕ). valueOf (coefficientAt (gridOf d) (boundsOf (d .conditions)) (d .responses .values) i)) faces
+
+  pub fluxes-size : length (fluxesOf d) ≡ faces
+  fluxes-size = length-listOf (λ (i : ℕ). valueOf (correctedFluxAt (correctingOf d) i)) (length (predictedOf d)) ∙ predicted-size
+
+  -- a one-cell face's predicted flux is its wall flux
+  pub wall-kept : (f : ℕ) → f < faces → secondAt (d .mesh .adjacency) f ≡ 0 → getD (predictedOf d) f nan ≡ getD (d .walls .values) f nan
+  unfolding predictedAt valueOf
+  wall-kept f l e =
+      getD-listOf (λ (i : ℕ). valueOf (predictedAt (gridOf d) (flowOf d) (d .walls .values) i)) (length (d .walls .values)) f (omega (arith, l, ready .walls)) ∙ rw e
+
+  pub below : (f : ℕ) → f < length (predictedOf d) → f < faces
+  below f l = subst (λ (n : ℕ). f < n) predicted-size l
+
+  pub correctable : Correctable (correctingOf d)
+  correctable = record {
+    adjacency = omega (arith, ready .good .sized .adjacency, predicted-size);
+    codes = omega (arith, ready .good .codes, predicted-size);
+    values = omega (arith, ready .good .values, predicted-size);
+    coefficients = coefficients-size ∙ sym predicted-size;
+    sides = λ f l. rw (ready .correction) (ready .good .sound .faces f (below f l));
+    peers = λ f l. rw predicted-size (peer-below (d .mesh .adjacency) (d .conditions .codes) faces f (ready .good .codes) (ready .good .sound .links f (below f l)));
+    links = λ f l n. ready .good .sound .links f (below f l) n .one-cell;
+  }
+
+  pub flows : Flows cells (d .mesh .adjacency) (fluxesOf d)
+  flows = record { size = omega (arith, ready .good .sized .adjacency, fluxes-size); faces = λ f l. ready .good .sound .faces f (omega (arith, l, fluxes-size)) }
+
+  pub lent-stencil : Good (lentOf (d .mesh) (d .conditions))
+  lent-stencil = lent-good (d .mesh) (d .conditions) (ready .good .sized) (ready .good .sound) (ready .good .codes) (ready .good .values)
+
+  pub coupled : (c f : ℕ) → c ≡ cells → f ≡ faces → Coupled (gridOf d) c f
+  coupled c f ec ef = record {
+    adjacency = omega (arith, ready .good .sized .adjacency, ef);
+    geometry = omega (arith, ready .good .sized .geometry, ef);
+    places = omega (arith, ready .good .sized .places, ec);
+    sides = λ i l. rw ec (ready .good .sound .faces i (omega (arith, l, ef)));
+  }
+
+  pub bounded : (f : ℕ) → f ≡ faces → Bounded (boundsOf (d .conditions)) f
+  bounded f e = record {
+    codes = omega (arith, ready .good .codes, e);
+    values = omega (arith, ready .good .values, e);
+    peers = λ i l. rw e (peer-below (d .mesh .adjacency) (d .conditions .codes) faces i (ready .good .codes) (ready .good .sound .links i (omega (arith, l, e))));
+  }
+
+  pub flowing : (g : List Float) → length g ≡ 3 * cells → Flowing (gridOf d) (flow (d .velocity .values) (d .pressure .values) g (d .responses .values)) (length (d .walls .values))
+  flowing g e = record {
+    coupled = coupled (length (d .pressure .values)) (length (d .walls .values)) (ready .pressure) (ready .walls);
+    velocity = omega (arith, ready .velocity, ready .pressure);
+    gradient = omega (arith, e, ready .pressure);
+    responses = ready .responses ∙ sym (ready .pressure);
+  }
+
+  -- what the parts say, by the lengths of the slices, is what the step says
+  abbrev flowBy : ℕ → Flow
+  flowBy n = flow (d .velocity .values) (d .pressure .values) (gradients (stencilOf d) (d .records) (d .pressure .values) n) (d .responses .values)
+
+  pub gradient-is : gradients (stencilOf d) (d .records) (d .pressure .values) (length (d .pressure .values)) ≡ gradientOf d
+  gradient-is = ap (gradients (stencilOf d) (d .records) (d .pressure .values)) (ready .pressure)
+
+  pub predicted-is : predictedFluxes (gridOf d) (flowBy (length (d .pressure .values))) (d .walls .values) ≡ predictedOf d
+  predicted-is = ap (λ (n : ℕ). predictedFluxes (gridOf d) (flowBy n) (d .walls .values)) (ready .pressure)
+
+  abbrev predictionPart : Answer
+  predictionPart = orElse (stencilAnswer (lentOf (d .mesh) (d .conditions)) (d .records)) (predictionAnswer (gridOf d) (flowOf d) (d .walls .values))
+
+  pub prediction-is : (r : Answer) → r ≡ orElse (stencilAnswer (lentOf (d .mesh) (d .conditions)) (d .records)) (predictionAnswer (gridOf d) (flowBy (length (d .pressure .values))) (d .walls .values)) → r ≡ predictionPart
+  prediction-is r h = h ∙ ap (λ (n : ℕ). orElse (stencilAnswer (lentOf (d .mesh) (d .conditions)) (d .records)) (predictionAnswer (gridOf d) (flowBy n) (d .walls .values))) (ready .pressure)
+
+  -- the correction, of predicted fluxes p and n coefficients
+  abbrev correctingBy : List Float → List Float → Correcting
+  correctingBy p k = correcting (d .mesh .adjacency) (d .conditions .codes) (d .conditions .values) p k (d .correction .values)
+
+  pub correctable-by : (p k : List Float) → p ≡ predictedOf d → length k ≡ faces → Correctable (correctingBy p k)
+  correctable-by p k ep ek =
+      subst (λ (q : List Float). Correctable (correctingBy q k)) (sym ep)
+      (with-coefficients (d .mesh .adjacency) (d .conditions .codes) (d .conditions .values) (predictedOf d) (coefficientsOf d) k (d .correction .values) (ek ∙ sym coefficients-size) correctable)
+
+  abbrev coefficientsBy : ℕ → List Float
+  coefficientsBy n = boundaryCoefficients (gridOf d) (boundsOf (d .conditions)) (d .responses .values) n
+
+  abbrev correctionPart : Answer
+  correctionPart = orElse (boundaryAnswer (gridOf d) (boundsOf (d .conditions)) (d .responses .values) faces) (correctionAnswer (correctingOf d))
+
+  pub correction-is : (p : List Float) (n : ℕ) (r : Answer) → p ≡ predictedOf d → n ≡ faces
+      → r ≡ orElse (boundaryAnswer (gridOf d) (boundsOf (d .conditions)) (d .responses .values) n) (correctionAnswer (correctingBy p (coefficientsBy n))) → r ≡ correctionPart
+  correction-is p n r ep en h = rw (ep, en) at h
+
+  pub coefficients-is : (n : ℕ) → n ≡ faces → coefficientsBy n ≡ coefficientsOf d
+  coefficients-is n en = ap coefficientsBy en
+
+  pub fluxes-is : (p : List Float) (n : ℕ) → p ≡ predictedOf d → n ≡ faces → correctedFluxes (correctingBy p (coefficientsBy n)) ≡ fluxesOf d
+  fluxes-is p n ep en = ap (λ (q : List Float). correctedFluxes (correctingBy q (coefficientsBy n))) ep ∙ ap (λ (k : ℕ). correctedFluxes (correctingBy (predictedOf d) (coefficientsBy k))) en
+
+  -- the outflows, of fluxes l and n cells
+  pub flows-by : (l : List Float) (n : ℕ) → l ≡ fluxesOf d → n ≡ cells → Flows n (d .mesh .adjacency) l
+  flows-by l n el en = rw (el, en) flows
+
+  pub outflows-is : (l : List Float) (n : ℕ) → l ≡ fluxesOf d → n ≡ cells → outflows n (d .mesh .adjacency) l ≡ outflowsOf d
+  outflows-is l n el en = ap (outflows n (d .mesh .adjacency)) el ∙ ap (λ (k : ℕ). outflows k (d .mesh .adjacency) (fluxesOf d)) en
+
+  abbrev measuredPart : List Float → Answer
+  measuredPart o = orElse (metricsAnswer (metricsOf (d .mesh .places) o)) (finiteAnswer o)
+
+  -- the answer of the step, by where it ends
+  abbrev answers : Answer
+  answers = orElse predictionPart (orElse correctionPart (measuredPart (outflowsOf d)))
+
+  work-is : workAnswer d ≡ answers
+  unfolding workAnswer
+  work-is = regrouped _ _ _ _ _ _
+
+  pub ends-first : (r : Answer) (k i : ℕ) → r ≡ predictionPart → r ≡ Refused k i → Refused k i ≡ workAnswer d
+  unfolding orElse
+  ends-first r k i h e = sym (work-is ∙ rw (sym h ∙ e))
+
+  pub ends-second : (p r : Answer) (k i : ℕ) → p ≡ predictionPart → p ≡ Accepted → r ≡ correctionPart → r ≡ Refused k i → Refused k i ≡ workAnswer d
+  unfolding orElse
+  ends-second p r k i hp ep h e = sym (work-is ∙ rw (sym hp ∙ ep) (rw (sym h ∙ e)))
+
+  pub ends-last : (p c r : Answer) (o : List Float) → p ≡ predictionPart → p ≡ Accepted → c ≡ correctionPart → c ≡ Accepted → o ≡ outflowsOf d → r ≡ measuredPart o → r ≡ workAnswer d
+  unfolding orElse
+  ends-last p c r o hp ep hc ec eo h = sym (work-is ∙ rw (sym hp ∙ ep) (rw (sym hc ∙ ec) (sym (h ∙ ap measuredPart eo))))

@@ -1,0 +1,115 @@
+-- `step::check_step` meets its contract: the checks of shape, then those of the mesh.
+use Rattle.step.specs.Call.{stepChecks}
+use Rattle.mesh.proofs.Search.{names-lowest}
+use Rattle.mesh.specs.Search.{lowestWhere}
+use Rattle.mesh.specs.Checks.{badLink}
+use Rattle.mesh.specs.Answers.{orElse}
+use Rattle.step.proofs.Passed.{refused-first}
+use mathlib.Core.Path.{_≡_, sym, _∙_}
+use denote.Ref.{now}
+use lib.ListN.{length}
+use Prim.Native.Nat.{_/_}
+use borrow.Author.Needs.{needs}
+use Rattle.step.proofs.check_step.Statement.{statement}
+use Rattle.step.proofs.check_step.Tie as tie
+
+abbrev startAt : tie.After-mesh-sized → tie.Start
+startAt c = search
+
+abbrev meshAt : tie.After-conditions-sized → tie.After-mesh-sized
+meshAt c = search
+
+abbrev conditionsAt : tie.After-fields-sized → tie.After-conditions-sized
+conditionsAt c = search
+
+abbrev fieldsAt : tie.After-outputs-sized → tie.After-fields-sized
+fieldsAt c = search
+
+abbrev outputsAt : tie.After-sizes-ok → tie.After-outputs-sized
+outputsAt c = search
+
+abbrev sizesAt : tie.After-shape → tie.After-sizes-ok
+sizesAt c = search
+
+abbrev shapedAt : tie.After-enum-told → tie.After-shape
+shapedAt c = search
+
+abbrev toldAt : tie.After-check-topology → tie.After-enum-told
+toldAt c = search
+
+mesh-sized-requires : tie.Need-mesh-sized-requires
+mesh-sized-requires c κs = search needs
+
+conditions-sized-requires : tie.Need-conditions-sized-requires
+conditions-sized-requires c κs = search needs
+
+fields-sized-requires : tie.Need-fields-sized-requires
+fields-sized-requires c κs = search needs
+
+outputs-sized-requires : tie.Need-outputs-sized-requires
+outputs-sized-requires c κs = search needs
+
+sizes-ok-requires : tie.Need-sizes-ok-requires
+sizes-ok-requires c κs = search needs
+
+shape-requires : tie.Need-shape-requires
+shape-requires c κs = search needs
+
+enum-told : tie.Need-enum-told
+enum-told c = search needs
+
+check-topology-requires : tie.Need-check-topology-requires
+check-topology-requires c κs = search needs
+
+enum-known-a : tie.Need-enum-known-a
+enum-known-a c = search needs
+
+returns : tie.Need-returns
+unfolding stepChecks orElse
+returns c =
+    let l : tie.After-check-topology = search in
+    let e = toldAt l in
+    let h = shapedAt e in
+    let z = sizesAt h in
+    let o = outputsAt z in
+    let f = fieldsAt o in
+    let k = conditionsAt f in
+    let m = meshAt k in
+    let t = l .check-topology .ensures in
+    record {
+      link = t .link;
+      names = t .names;
+      is = rw (← z .sizes-ok .ensures, ← m .mesh-sized .ensures, ← k .conditions-sized .ensures, ← f .fields-sized .ensures, ← o .outputs-sized .ensures, ← h .shape .ensures, e .enum-told .given .1) (t .is);
+    }
+
+returns-2 : tie.Need-returns-2
+unfolding stepChecks orElse
+returns-2 c =
+    let h : tie.After-shape = search in
+    let z = sizesAt h in
+    let o = outputsAt z in
+    let f = fieldsAt o in
+    let k = conditionsAt f in
+    let m = meshAt k in
+    let s = startAt m in
+    record {
+      link = lowestWhere (badLink (now (s .args .adjacency)) (now (s .args .codes))) (length (now (s .args .codes)) / 2);
+      names = names-lowest (badLink (now (s .args .adjacency)) (now (s .args .codes))) (length (now (s .args .codes)) / 2);
+      is = rw (← z .sizes-ok .ensures, ← m .mesh-sized .ensures, ← k .conditions-sized .ensures, ← f .fields-sized .ensures, ← o .outputs-sized .ensures) (refused-first _ _ _ _ (sym (h .shape .ensures) ∙ c .before .a .given .1));
+    }
+
+pub check-step-spec : {M : Type 1} → statement M
+check-step-spec =
+    tie.close
+    (tie.spec
+    mesh-sized-requires
+    conditions-sized-requires
+    fields-sized-requires
+    outputs-sized-requires
+    sizes-ok-requires
+    shape-requires
+    enum-told
+    check-topology-requires
+    enum-known-a
+    returns
+    returns-2)

@@ -1,0 +1,146 @@
+-- The entry of the step: its checks, its answer, and what its ten outputs hold. Definitions only.
+use mathlib.Core.Path.{_≡_}
+use mathlib.Core.List.{List, [], _∷_}
+use mathlib.Core.Bool.{Bool, _&&_}
+use Prim.Native.Nat.{ℕ, _*_}
+use lib.Dec.{eqb, leb}
+use lib.ListN.{length, replicate}
+use lib.Ieee.{Float}
+use Rattle.binary64.specs.Numbers.{zero64}
+use Rattle.mesh.specs.Answers.{orElse, shape}
+use Rattle.mesh.specs.Checks.{sizesOk, NamesBadLink}
+use Rattle.mesh.specs.Mesh.{meshSized, conditionsSized, topology}
+use Rattle.mesh.specs.Pass.{unless}
+use Rattle.mesh.specs.Search.{everyOf}
+use Rattle.mesh.specs.declared.Answer.{Answer}
+use Rattle.mesh.specs.declared.Answer.the-variants.{Accepted}
+use Rattle.mesh.specs.declared.Counts.{Counts}
+use Rattle.mesh.specs.declared.Found.{Found}
+use Rattle.numerics.specs.Checks.{lengths, stencilSized}
+use Rattle.simple.specs.Metrics.{metricsOf, metricsNumbers}
+use Rattle.step.specs.Step.{Given, stencilOf, gradientOf, predictedOf, coefficientsOf, fluxesOf, outflowsOf, workAnswer}
+
+-- the outputs
+pub record Handed : Type 0 where
+  pub starts : List ℕ
+  pub equations : List ℕ
+  pub weights : List Float
+  pub inverses : List Float
+  pub gradient : List Float
+  pub predicted : List Float
+  pub coefficients : List Float
+  pub flux : List Float
+  pub outflow : List Float
+  pub metrics : List Float
+
+abbrev pub handed : List ℕ → List ℕ → List Float → List Float → List Float → List Float → List Float → List Float → List Float → List Float → Handed
+handed s e w i g p k f o m = record {
+  starts = s;
+  equations = e;
+  weights = w;
+  inverses = i;
+  gradient = g;
+  predicted = p;
+  coefficients = k;
+  flux = f;
+  outflow = o;
+  metrics = m;
+}
+
+-- what holds where the answer accepts
+abbrev pub IfAccepted : Answer → Type 0 → Type 0
+IfAccepted r P = r ≡ Accepted → P
+
+-- ---- the checks
+
+-- 2 of the fields, which have so many numbers
+abbrev pub fieldSizes : Counts → ℕ → ℕ → ℕ → ℕ → List Bool
+fieldSizes n pressures responses walls corrections =
+    eqb pressures (n .cells) ∷ eqb responses (n .cells) ∷ eqb walls (n .faces) ∷ eqb corrections (n .cells) ∷ []
+
+abbrev pub fieldsSized : Counts → ℕ → ℕ → ℕ → ℕ → ℕ → Bool
+fieldsSized n velocities pressures responses walls corrections =
+    everyOf (eqb velocities (3 * (n .cells))) (fieldSizes n pressures responses walls corrections)
+
+-- 2 of the outputs; the first four are a stencil's
+abbrev pub outputSizes : Counts → Handed → List Bool
+outputSizes n old =
+    eqb (length (old .gradient)) (3 * (n .cells))
+    ∷ eqb (length (old .predicted)) (n .faces)
+    ∷ eqb (length (old .coefficients)) (n .faces)
+    ∷ eqb (length (old .flux)) (n .faces)
+    ∷ eqb (length (old .outflow)) (n .cells)
+    ∷ eqb (length (old .metrics)) 2
+    ∷ []
+
+abbrev pub outputsSized : Counts → ℕ → Handed → Bool
+outputsSized n records old =
+    everyOf
+    (stencilSized (n .cells) records (lengths (length (old .starts)) (length (old .equations)) (length (old .weights)) (length (old .inverses))))
+    (outputSizes n old)
+
+-- 3 of the fields
+abbrev pub fieldNumbers : Given → List Bool
+fieldNumbers d =
+    eqb (d .velocity .number) (d .mesh .counts .mesh)
+    ∷ eqb (d .pressure .number) (d .mesh .counts .mesh)
+    ∷ eqb (d .responses .number) (d .mesh .counts .mesh)
+    ∷ eqb (d .walls .number) (d .mesh .counts .mesh)
+    ∷ eqb (d .correction .number) (d .mesh .counts .mesh)
+    ∷ []
+
+-- 1 to 6 of all that is lent
+abbrev pub stepSized : Given → Handed → Bool
+stepSized d old =
+    let n = d .mesh .counts in
+    meshSized (d .mesh) && conditionsSized (n .faces) (d .conditions .codes) (d .conditions .values)
+    && fieldsSized n (length (d .velocity .values)) (length (d .pressure .values)) (length (d .responses .values)) (length (d .walls .values)) (length (d .correction .values))
+    && outputsSized n (d .records) old
+
+unfoldable pub stepChecks : Given → Handed → Found → Answer
+stepChecks d old link =
+    orElse
+    (shape (sizesOk (d .mesh .counts) && leb (d .records) 65535) (stepSized d old)
+    (everyOf (eqb (d .conditions .number) (d .mesh .counts .mesh)) (fieldNumbers d)))
+    (topology (d .mesh) (d .conditions .codes) link)
+
+pub record StepChecked (d : Given) (old : Handed) (r : Answer) : Type 0 where
+  pub link : Found
+  pub names : NamesBadLink (d .mesh .adjacency) (d .conditions .codes) link
+  pub is : r ≡ stepChecks d old link
+
+-- ---- the outputs
+
+-- of an accepted step
+abbrev pub results : Given → Handed
+results d =
+    handed (stencilOf d .starts) (stencilOf d .equations) (stencilOf d .weights) (stencilOf d .inverses) (gradientOf d) (predictedOf d) (coefficientsOf d)
+    (fluxesOf d) (outflowsOf d) (metricsNumbers (metricsOf (d .mesh .places) (outflowsOf d)))
+
+-- 0 and +0.0 throughout, as long as the outputs are
+abbrev pub cleared : Handed → Handed
+cleared old =
+    handed (replicate (length (old .starts)) 0) (replicate (length (old .equations)) 0) (replicate (length (old .weights)) zero64)
+    (replicate (length (old .inverses)) zero64) (replicate (length (old .gradient)) zero64) (replicate (length (old .predicted)) zero64)
+    (replicate (length (old .coefficients)) zero64) (replicate (length (old .flux)) zero64) (replicate (length (old .outflow)) zero64)
+    (replicate (length (old .metrics)) zero64)
+
+-- the answer, and what the outputs hold after the call: untouched where a check refuses, cleared where arithmetic does
+pub record StepCall (d : Given) (old : Handed) (r : Answer) (new : Handed) : Type 0 where
+  pub link : Found
+  pub names : NamesBadLink (d .mesh .adjacency) (d .conditions .codes) link
+  pub answer : r ≡ orElse (stepChecks d old link) (workAnswer d)
+  pub outputs : new ≡ unless (stepChecks d old link) old (unless r (cleared old) (results d))
+
+-- what the checks establish of the outputs
+pub record OutputsFit (n : Counts) (records : ℕ) (old : Handed) : Type 0 where
+  pub starts : length (old .starts) ≡ n .cells
+  pub equations : length (old .equations) ≡ 2 * records
+  pub weights : length (old .weights) ≡ 4 * records
+  pub inverses : length (old .inverses) ≡ 9 * (n .cells)
+  pub gradient : length (old .gradient) ≡ 3 * (n .cells)
+  pub predicted : length (old .predicted) ≡ n .faces
+  pub coefficients : length (old .coefficients) ≡ n .faces
+  pub flux : length (old .flux) ≡ n .faces
+  pub outflow : length (old .outflow) ≡ n .cells
+  pub metrics : length (old .metrics) ≡ 2

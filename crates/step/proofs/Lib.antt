@@ -1,6 +1,3 @@
--- What the parts of the step ask for, and what an accepted step promises.
-pub mod Fitting
+-- What the checks establish, and what is handed out.
 pub mod Passed
-pub mod Parts
-pub mod Demanded
-pub mod Exemplified
+pub mod Outputs

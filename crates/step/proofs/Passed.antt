@@ -16,7 +16,7 @@ use Rattle.mesh.proofs.Good.{sized, sound}
 use Rattle.mesh.proofs.Truth.{and-true, every-at}
 use Rattle.numerics.specs.Checks.{lengths, stencilSizes, stencilSized}
 use Rattle.step.specs.Call.{Handed, fieldSizes, fieldsSized, outputSizes, outputsSized, fieldNumbers, stepSized, stepChecks, StepChecked, OutputsFit}
-use Rattle.step.specs.Step.{Given, alike, workAnswer, Lendable}
+use Rattle.scheme.specs.Step.{Given, alike, workAnswer, Lendable}
 
 pub refused-first : (a b : Answer) (k i : ℕ) → a ≡ Refused k i → Refused k i ≡ orElse a b
 unfolding orElse

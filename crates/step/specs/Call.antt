@@ -1,4 +1,4 @@
--- The entry of the step: its checks, its answer, and what its ten outputs hold. Definitions only.
+-- The step as one call: its checks, its answer, and what its ten outputs hold. Definitions only.
 use mathlib.Core.Path.{_≡_}
 use mathlib.Core.List.{List, [], _∷_}
 use mathlib.Core.Bool.{Bool, _&&_}
@@ -18,7 +18,7 @@ use Rattle.mesh.specs.declared.Counts.{Counts}
 use Rattle.mesh.specs.declared.Found.{Found}
 use Rattle.numerics.specs.Checks.{lengths, stencilSized}
 use Rattle.simple.specs.Metrics.{metricsOf, metricsNumbers}
-use Rattle.step.specs.Step.{Given, stencilOf, gradientOf, predictedOf, coefficientsOf, fluxesOf, outflowsOf, workAnswer}
+use Rattle.scheme.specs.Step.{Given, stencilOf, gradientOf, predictedOf, coefficientsOf, fluxesOf, outflowsOf, workAnswer}
 
 -- the outputs
 pub record Handed : Type 0 where

@@ -1,4 +1,1 @@
-pub mod Step
 pub mod Call
-pub mod Demand
-pub mod Examples

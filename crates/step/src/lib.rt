@@ -4,8 +4,8 @@ ghost use mathlib.Core.Path.{_≡_};
 ghost use Rattle.mesh.specs.Mesh.{mesh, conditions};
 ghost use Rattle.simple.specs.Grid.{field};
 ghost use Rattle.step.specs.Call.{handed, fieldsSized, outputsSized, StepChecked, StepCall};
-ghost use Rattle.step.specs.Demand.{Demanded};
-ghost use Rattle.step.specs.Step.{given};
+ghost use Rattle.scheme.specs.Demand.{Demanded};
+ghost use Rattle.scheme.specs.Step.{given};
 use mesh::Answer;
 use mesh::Counts;
 

@@ -16,7 +16,7 @@ ghost use Rattle.simple.specs.Grid.{grid, Coupled};
 ghost use Rattle.simple.specs.Metrics.{metricsOf, metricsAnswer, metricsNumbers};
 ghost use Rattle.simple.specs.Prediction.{flow, Flowing, predictionAnswer, predictedFluxes};
 ghost use Rattle.step.specs.Call.{handed, IfAccepted, cleared, results, OutputsFit};
-ghost use Rattle.step.specs.Step.{alike, finiteAnswer, workAnswer, Lendable};
+ghost use Rattle.scheme.specs.Step.{alike, finiteAnswer, workAnswer, Lendable};
 use mesh::Answer;
 use mesh::Counts;
 

@@ -1,5 +1,5 @@
 -- `step::work::carry_out` meets its contract: the parts, and the clearing after a refusal.
-use Rattle.step.proofs.Parts.{same-cleared}
+use Rattle.step.proofs.Outputs.{same-cleared}
 use Rattle.mesh.specs.Pass.{unless}
 use Rattle.step.specs.Call.{Handed, handed}
 use denote.Ref.{now}

@@ -1,5 +1,5 @@
 -- `step::work::clear` meets its contract: every output in turn.
-use Rattle.step.proofs.Parts.{same-handed}
+use Rattle.step.proofs.Outputs.{same-handed}
 use borrow.Author.Needs.{needs}
 use Rattle.step.proofs.work.clear.Statement.{statement}
 use Rattle.step.proofs.work.clear.Tie as tie

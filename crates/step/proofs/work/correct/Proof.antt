@@ -1,6 +1,6 @@
 -- `step::work::correct` meets its contract: the coefficients, and the fluxes by them.
 use Rattle.simple.proofs.Stages.{handed-out, never-accepted}
-use Rattle.step.proofs.Parts.{with-coefficients}
+use Rattle.scheme.proofs.Parts.{with-coefficients}
 use Rattle.simple.specs.Correction.{Correcting, correcting, correctionAnswer, correctedFluxes}
 use Rattle.mesh.specs.Answers.{orElse}
 use denote.Ref.{now}

@@ -1,6 +1,6 @@
 -- `step::work::predict` meets its contract: the stencil, and the flux predicted by it.
 use Rattle.simple.proofs.Stages.{handed-out, never-accepted}
-use Rattle.step.proofs.Parts.{same-slices, sloped}
+use Rattle.scheme.proofs.Parts.{same-slices, sloped}
 use Rattle.simple.specs.Grid.{Grid, grid}
 use Rattle.simple.specs.Prediction.{Flow, flow, predictionAnswer, predictedFluxes}
 use Rattle.numerics.specs.Checks.{Slices, slices}

@@ -8,7 +8,7 @@ use Rattle.mesh.specs.Vector.{dot, difference}
 use Rattle.coupling.specs.Face.{distances, faceResponse, projected, positive, internalCoefficient, correctedFlux}
 use Rattle.numerics.specs.Outflow.{outflows, scatter, scatterFace, upTo, given}
 use Rattle.simple.specs.Correction.{wallFlux}
-use Rattle.step.specs.Examples.{Examples}
+use Rattle.scheme.specs.Examples.{Examples}
 
 pub examples : Examples
 unfolding rootIn ofBits add sub mul div neg le lt dot difference distances faceResponse projected positive internalCoefficient correctedFlux wallFlux outflows scatter scatterFace upTo given exactTotal units count totalCount

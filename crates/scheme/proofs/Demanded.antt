@@ -11,9 +11,7 @@ use lib.Ieee.Scale.{finite}
 use borrow.Author.Tests.{not-false}
 use Rattle.binary64.specs.Numbers.{isFinite}
 use Rattle.mesh.specs.Answers.{orElse, firstOf}
-use Rattle.mesh.specs.Pass.{unless}
 use Rattle.mesh.specs.Search.{lowestWhere}
-use Rattle.mesh.specs.declared.Answer.{Answer}
 use Rattle.mesh.specs.declared.Answer.the-variants.{Accepted}
 use Rattle.mesh.specs.declared.Found.{Found}
 use Rattle.mesh.specs.declared.Found.the-variants.{Nothing, At}
@@ -31,11 +29,10 @@ use Rattle.simple.specs.Metrics.{metricsOf, metricsAnswer}
 use Rattle.simple.specs.Prediction.{predictionAnswer}
 use Rattle.simple.specs.Promise.{Boundary, Promise, boundaryOf}
 use Rattle.simple.proofs.Promised.{promised, withGiven, carried}
-use Rattle.step.specs.Step.{Given, Lendable, gridOf, flowOf, predictedOf, coefficientsOf, correctingOf, fluxesOf, outflowsOf, spilled, endless, finiteAnswer, workAnswer}
-use Rattle.step.specs.Call.{Handed, cleared, results}
-use Rattle.step.specs.Demand.{wallsOf, DemandThree}
-use Rattle.step.proofs.Fitting.{value-fits}
-use Rattle.step.proofs.Parts.{predicted-size, fluxes-size, wall-kept, below, correctable, flows}
+use Rattle.scheme.specs.Step.{Given, Lendable, gridOf, flowOf, predictedOf, coefficientsOf, correctingOf, fluxesOf, outflowsOf, spilled, endless, finiteAnswer, workAnswer}
+use Rattle.scheme.specs.Demand.{wallsOf, DemandThree}
+use Rattle.scheme.proofs.Fitting.{value-fits}
+use Rattle.scheme.proofs.Parts.{predicted-size, fluxes-size, wall-kept, below, correctable, flows}
 
 nothing-spilled : (f : Found) → spilled f ≡ Accepted → f ≡ Nothing
 unfolding spilled
@@ -95,11 +92,3 @@ module _ (d : Given) (ready : Lendable d) where
       balanced = subst (λ (n : ℕ). Balanced (facesOf (d .mesh .adjacency) (fluxesOf d)) n (outflowsOf d)) (fluxes-size d ready) (balances cells (d .mesh .adjacency) (fluxesOf d) (flows d ready) fluxes-fit finite-outflows);
       kept = kept;
     }
-
--- what an accepted step hands out meets it
-module _ (d : Given) (ready : Lendable d) (fit : (f : ℕ) → f < length (d .walls .values) → T (fits binary64 (getD (d .walls .values) f nan))) where
-  pub delivered : (r : Answer) (old new : Handed) → r ≡ workAnswer d → new ≡ unless r (cleared old) (results d) → r ≡ Accepted → DemandThree d (new .flux) (new .outflow)
-  unfolding unless
-  delivered r old new h e ok =
-      let out : new ≡ results d = e ∙ rw ok in
-      subst (λ (h : Handed). DemandThree d (h .flux) (h .outflow)) (sym out) (demanded d ready fit (sym h ∙ ok))

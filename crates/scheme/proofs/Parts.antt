@@ -24,8 +24,7 @@ use Rattle.simple.specs.Correction.{Correcting, correcting, Correctable, correc
 use Rattle.simple.specs.Grid.{Coupled}
 use Rattle.simple.specs.Metrics.{metricsOf, metricsAnswer, metricsNumbers}
 use Rattle.simple.specs.Prediction.{Flow, flow, Flowing, predictedAt, predictionAnswer, predictedFluxes}
-use Rattle.step.specs.Call.{Handed, cleared}
-use Rattle.step.specs.Step.{Given, Lendable, gridOf, stencilOf, gradientOf, flowOf, predictedOf, coefficientsOf, correctingOf, fluxesOf, outflowsOf, finiteAnswer, workAnswer}
+use Rattle.scheme.specs.Step.{Given, Lendable, gridOf, stencilOf, gradientOf, flowOf, predictedOf, coefficientsOf, correctingOf, fluxesOf, outflowsOf, finiteAnswer, workAnswer}
 
 -- a correction asks nothing of the coefficients but how many they are
 pub with-coefficients : (a c : List ℕ) (v p k l x : List Float) → length l ≡ length k → Correctable (correcting a c v p k x) → Correctable (correcting a c v p l x)
@@ -69,16 +68,6 @@ regrouped Accepted Accepted Accepted (Refused k i) f g = refl
 regrouped Accepted Accepted Accepted Accepted (Refused k i) g = refl
 regrouped Accepted Accepted Accepted Accepted Accepted (Refused k i) = refl
 regrouped Accepted Accepted Accepted Accepted Accepted Accepted = refl
-
-pub same-handed : (a b : Handed) → a .starts ≡ b .starts → a .equations ≡ b .equations → a .weights ≡ b .weights → a .inverses ≡ b .inverses → a .gradient ≡ b .gradient
-    → a .predicted ≡ b .predicted → a .coefficients ≡ b .coefficients → a .flux ≡ b .flux → a .outflow ≡ b .outflow → a .metrics ≡ b .metrics → a ≡ b
-same-handed a b s e w i g p k f o m = rw (s, e, w, i, g, p, k, f, o, m)
-
--- of cleared outputs only the lengths are left
-pub same-cleared : (a b : Handed) → length (a .starts) ≡ length (b .starts) → length (a .equations) ≡ length (b .equations) → length (a .weights) ≡ length (b .weights) → length (a .inverses) ≡ length (b .inverses)
-    → length (a .gradient) ≡ length (b .gradient) → length (a .predicted) ≡ length (b .predicted) → length (a .coefficients) ≡ length (b .coefficients) → length (a .flux) ≡ length (b .flux)
-    → length (a .outflow) ≡ length (b .outflow) → length (a .metrics) ≡ length (b .metrics) → cleared a ≡ cleared b
-same-cleared a b s e w i g p k f o m = rw (s, e, w, i, g, p, k, f, o, m)
 
 -- ---- the parts of one step
 

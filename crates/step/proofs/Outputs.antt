@@ -1,0 +1,31 @@
+-- Laws of the outputs: when two sets of them are the same, and that those of an accepted step meet demand 3. Assumes nothing.
+use mathlib.Core.Path.{_≡_, sym, _∙_, subst}
+use Prim.Native.Nat.{ℕ, _<_}
+use lib.Dec.{T}
+use lib.ListN.{length, getD}
+use lib.Ieee.{nan, binary64, fits}
+use Rattle.mesh.specs.Pass.{unless}
+use Rattle.mesh.specs.declared.Answer.{Answer}
+use Rattle.mesh.specs.declared.Answer.the-variants.{Accepted}
+use Rattle.scheme.specs.Demand.{DemandThree}
+use Rattle.scheme.specs.Step.{Given, Lendable, workAnswer}
+use Rattle.scheme.proofs.Demanded.{demanded}
+use Rattle.step.specs.Call.{Handed, cleared, results}
+
+pub same-handed : (a b : Handed) → a .starts ≡ b .starts → a .equations ≡ b .equations → a .weights ≡ b .weights → a .inverses ≡ b .inverses → a .gradient ≡ b .gradient
+    → a .predicted ≡ b .predicted → a .coefficients ≡ b .coefficients → a .flux ≡ b .flux → a .outflow ≡ b .outflow → a .metrics ≡ b .metrics → a ≡ b
+same-handed a b s e w i g p k f o m = rw (s, e, w, i, g, p, k, f, o, m)
+
+-- of cleared outputs only the lengths are left
+pub same-cleared : (a b : Handed) → length (a .starts) ≡ length (b .starts) → length (a .equations) ≡ length (b .equations) → length (a .weights) ≡ length (b .weights) → length (a .inverses) ≡ length (b .inverses)
+    → length (a .gradient) ≡ length (b .gradient) → length (a .predicted) ≡ length (b .predicted) → length (a .coefficients) ≡ length (b .coefficients) → length (a .flux) ≡ length (b .flux)
+    → length (a .outflow) ≡ length (b .outflow) → length (a .metrics) ≡ length (b .metrics) → cleared a ≡ cleared b
+same-cleared a b s e w i g p k f o m = rw (s, e, w, i, g, p, k, f, o, m)
+
+-- what an accepted step hands out meets it
+module _ (d : Given) (ready : Lendable d) (fit : (f : ℕ) → f < length (d .walls .values) → T (fits binary64 (getD (d .walls .values) f nan))) where
+  pub delivered : (r : Answer) (old new : Handed) → r ≡ workAnswer d → new ≡ unless r (cleared old) (results d) → r ≡ Accepted → DemandThree d (new .flux) (new .outflow)
+  unfolding unless
+  delivered r old new h e ok =
+      let out : new ≡ results d = e ∙ rw ok in
+      subst (λ (h : Handed). DemandThree d (h .flux) (h .outflow)) (sym out) (demanded d ready fit (sym h ∙ ok))

@@ -130,9 +130,9 @@ pub fn corrected_flux(predicted: f64, k: f64, other: f64, own: f64) -> Outcome
     if !binary64::usable(k) {
         return Outcome::Bad(9);
     }
-    let flux = predicted - k * (other - own);
-    if binary64::finite(flux) {
-        return Outcome::Value(flux);
+    let corrected = predicted - k * (other - own);
+    if binary64::finite(corrected) {
+        return Outcome::Value(corrected);
     }
     Outcome::Bad(9)
 }

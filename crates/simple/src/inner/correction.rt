@@ -65,8 +65,8 @@ fn fill(
     requires { ⌜ length (now out) ≡ length (now predicted) ⌝ }
     ensures { λ r. ⌜ Passes (correctionAnswer (correcting (now (adjacency .entry)) (now (codes .entry)) (now (values .entry)) (now (predicted .entry)) (now (coefficients .entry)) (now (correction .entry)))) (correctedFluxes (correcting (now (adjacency .entry)) (now (codes .entry)) (now (values .entry)) (now (predicted .entry)) (now (coefficients .entry)) (now (correction .entry)))) r (now (out .exit)) ⌝ }
 {
-    let mut f = 0;
-    while f < predicted.len() {
+    let mut face = 0;
+    while face < predicted.len() {
         match flux_at(
             adjacency,
             codes,
@@ -74,12 +74,12 @@ fn fill(
             predicted,
             coefficients,
             correction,
-            f,
+            face,
         ) {
-            Outcome::Value(v) => out[f] = v,
-            Outcome::Bad(k) => return Answer::Refused(k, f),
+            Outcome::Value(v) => out[face] = v,
+            Outcome::Bad(k) => return Answer::Refused(k, face),
         }
-        f += 1;
+        face += 1;
     }
     Answer::Accepted
 }

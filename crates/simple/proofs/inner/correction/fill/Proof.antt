@@ -1,4 +1,4 @@
--- `simple::inner::correction::fill` meets its contract: the fluxes of the faces below f are written.
+-- `simple::inner::correction::fill` meets its contract: the fluxes of the faces below `face` are written.
 use Rattle.simple.specs.Correction.{correcting, correctedFluxAt}
 use Rattle.mesh.proofs.Pass.{Passed, start, more, finish, stop}
 use Rattle.mesh.specs.declared.Outcome.{Outcome}
@@ -12,10 +12,10 @@ use Rattle.simple.proofs.inner.correction.fill.Statement.{statement}
 use Rattle.simple.proofs.inner.correction.fill.Tie as tie
 
 abbrev Inv-loop : tie.InvT-loop
-Inv-loop adjacency codes values predicted coefficients correction out₀ f₀ out f = Passed (correctedFluxAt (correcting adjacency codes values predicted coefficients correction)) (length predicted) out f
+Inv-loop adjacency codes values predicted coefficients correction out₀ face₀ out face = Passed (correctedFluxAt (correcting adjacency codes values predicted coefficients correction)) (length predicted) out face
 
 abbrev μ-loop : tie.MeasureT-loop
-μ-loop adjacency codes values predicted coefficients correction out₀ f₀ out f = length predicted - f
+μ-loop adjacency codes values predicted coefficients correction out₀ face₀ out face = length predicted - face
 
 -- what each face comes to
 abbrev itemAt : tie.Start Inv-loop μ-loop → ℕ → Outcome
@@ -60,10 +60,10 @@ returns c =
     let l : tie.In-loop Inv-loop μ-loop = search in
     let v : tie.After-flux-at Inv-loop μ-loop = search in
     let k : tie.After-k Inv-loop μ-loop = search in
-    (sym (stop (itemAt s) (length (now (s .args .predicted))) (l .before .loop .out) (l .before .loop .f) _ (l .before .loop .inv) (l .loop-test .taken) (sym (v .flux-at .ensures) ∙ k .k .given .1)), λ e. cc)
+    (sym (stop (itemAt s) (length (now (s .args .predicted))) (l .before .loop .out) (l .before .loop .face) _ (l .before .loop .inv) (l .loop-test .taken) (sym (v .flux-at .ensures) ∙ k .k .given .1)), λ e. cc)
 
-add-f : tie.Need-add-f Inv-loop μ-loop
-add-f c =
+add-face : tie.Need-add-face Inv-loop μ-loop
+add-face c =
     let l : tie.In-loop Inv-loop μ-loop = search in
     omega (arith, l .loop-test .taken)
 
@@ -78,7 +78,7 @@ loop-again c =
     let l : tie.In-loop Inv-loop μ-loop = search in
     let v : tie.After-flux-at Inv-loop μ-loop = search in
     let k : tie.After-v Inv-loop μ-loop = search in
-    more (itemAt s) (length (now (s .args .predicted))) (l .before .loop .out) (l .before .loop .f) _ (l .before .loop .inv) (l .loop-test .taken) (sym (v .flux-at .ensures) ∙ k .v .given .1)
+    more (itemAt s) (length (now (s .args .predicted))) (l .before .loop .out) (l .before .loop .face) _ (l .before .loop .inv) (l .loop-test .taken) (sym (v .flux-at .ensures) ∙ k .v .given .1)
 
 same-length-2 : tie.Need-same-length-2 Inv-loop μ-loop
 same-length-2 c =
@@ -88,7 +88,7 @@ same-length-2 c =
 returns-2 : tie.Need-returns-2 Inv-loop μ-loop
 returns-2 c =
     let s : tie.Start Inv-loop μ-loop = search in
-    let w = finish (itemAt s) (length (now (s .args .predicted))) (c .before .loop .out) (c .before .loop .f) (c .before .loop .inv) (c .loop-test .left) in
+    let w = finish (itemAt s) (length (now (s .args .predicted))) (c .before .loop .out) (c .before .loop .face) (c .before .loop .inv) (c .loop-test .left) in
     (sym (w .0), λ _. w .1)
 
 pub fill-spec : {M : Type 1} → statement M
@@ -105,7 +105,7 @@ fill-spec =
     enum-known-k
     same-length
     returns
-    add-f
+    add-face
     loop-less
     loop-again
     same-length-2

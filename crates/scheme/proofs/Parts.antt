@@ -10,7 +10,7 @@ use Rattle.mesh.specs.Pass.{valueOf}
 use Rattle.mesh.specs.Records.{secondAt}
 use Rattle.mesh.specs.declared.Answer.{Answer}
 use Rattle.mesh.specs.declared.Answer.the-variants.{Accepted, Refused}
-use Rattle.mesh.proofs.Facts.{peer-below}
+use Rattle.mesh.proofs.Facts.{both-accepted, peer-below}
 use Rattle.mesh.proofs.Values.{length-listOf, getD-listOf}
 use Rattle.numerics.specs.Checks.{slices, lentOf}
 use Rattle.numerics.specs.Gradient.{Sloped, gradients}
@@ -19,9 +19,10 @@ use Rattle.numerics.specs.Outflow.{Flows, outflows}
 use Rattle.numerics.specs.Stencil.{stencilAnswer, stencilStarts, stencilEquations}
 use Rattle.numerics.proofs.Good.{lent-good}
 use Rattle.numerics.proofs.inner.stencil.Sound.{accepted-sound}
-use Rattle.simple.specs.Boundary.{Bounded, boundsOf, boundaryAnswer, boundaryCoefficients, coefficientAt}
+use Rattle.simple.specs.Boundary.{Bounded, Begun, boundsOf, boundaryAnswer, boundaryCoefficients, coefficientAt}
 use Rattle.simple.specs.Correction.{Correcting, correcting, Correctable, correctedFluxAt, correctionAnswer, correctedFluxes}
-use Rattle.simple.specs.Grid.{Coupled}
+use Rattle.simple.specs.Coefficients.{coefficientAnswer, coefficients}
+use Rattle.simple.specs.Grid.{Grid, Coupled}
 use Rattle.simple.specs.Metrics.{metricsOf, metricsAnswer, metricsNumbers}
 use Rattle.simple.specs.Prediction.{Flow, flow, Flowing, predictedAt, predictionAnswer, predictedFluxes}
 use Rattle.scheme.specs.Step.{Given, Lendable, gridOf, stencilOf, gradientOf, flowOf, predictedOf, coefficientsOf, correctingOf, fluxesOf, outflowsOf, finiteAnswer, workAnswer}
@@ -37,6 +38,10 @@ with-coefficients a c v p k l x e m = record {
   peers = m .peers;
   links = m .links;
 }
+
+-- after an accepted prediction the coefficients of the faces with two cells are there
+pub begun : (m : Grid) (q : Flow) (walls l : List Float) → predictionAnswer m q walls ≡ Accepted → length l ≡ length walls → l ≡ coefficients m (q .responses) (length walls) → Begun m (q .responses) l
+begun m q walls l ok e is = (rw e (both-accepted (coefficientAnswer m (q .responses) (length walls)) _ ok .0), is ∙ ap (coefficients m (q .responses)) (sym e))
 
 -- ---- the stencil
 

@@ -16,7 +16,7 @@ use Rattle.mesh.specs.declared.Answer.the-variants.{Accepted, Refused}
 use Rattle.mesh.specs.declared.Outcome.{Outcome}
 use Rattle.mesh.specs.declared.Outcome.the-variants.{Value, Bad}
 use Rattle.mesh.proofs.Pass.{refused-at}
-use Rattle.simple.specs.Staged.{Passes, twoRefusals, lateOf, staged, isEarly, earlyNumber, keptAt, lateAfter}
+use Rattle.simple.specs.Staged.{Passes, twoRefusals, lateOf, staged, isEarly, earlyNumber, keptAt, lateAfter, storedAt}
 use Rattle.simple.specs.declared.inner.stage.Stage.{Stage}
 use Rattle.simple.specs.declared.inner.stage.Stage.the-variants.{Kept, Early, Late}
 
@@ -106,3 +106,32 @@ module _ (g h : ℕ → Outcome) (n : ℕ) where
   finish out late i p l =
       let e : i ≡ n = le-antisymm (p .within) l in
       (rw (← e, p .none) (p .second), λ a. rw (← e) (sym (take-all i out (omega (arith, p .size))) ∙ p .done a))
+
+-- the numbers of the first sequence below i stand in a list, where it has room for n
+pub record Stores (g : ℕ → Outcome) (n room : ℕ) (l : List Float) (i : ℕ) : Type 0 where
+  pub size : length l ≡ room
+  pub done : room ≡ n → take i l ≡ valuesOf g i
+
+module _ (g : ℕ → Outcome) (n room : ℕ) where
+  pub empty : (l : List Float) → length l ≡ room → Stores g n room l 0
+  unfolding listOf
+  empty l e = record { size = e; done = λ _. refl }
+
+  put : (l : List Float) (i : ℕ) (a b : Outcome) → g i ≡ a → isEarly (staged a b) ≡ false → Stores g n room l i → i < n → Stores g n room (storedAt l i a) (i + 1)
+  unfolding staged isEarly storedAt listOf valueOf
+  put l i (Bad k) b eg nay p h = let z : _≡_ {A = ℕ} 0 1 = cc in absurd (omega arith)
+  put l i (Value v) b eg nay p h = record {
+    size = length-set l i v ∙ p .size;
+    done = λ e.
+        let m : i < length l = omega (arith, p .size, e, h) in
+        rw (add-one, take-suc-set l i v m, p .done e, eg);
+  }
+
+  -- an item that does not refuse in the first sequence, beside any second one
+  pub stored : (h : ℕ → Outcome) (l new : List Float) (i : ℕ) (s : Stage) → s ≡ staged (g i) (h i) → isEarly s ≡ false → new ≡ storedAt l i (g i) → Stores g n room l i → i < n → Stores g n room new (i + 1)
+  stored h l new i s es nay en p lt = rw en (put l i (g i) (h i) refl (ap isEarly (sym es) ∙ nay) p lt)
+
+  pub filled : (l : List Float) (i : ℕ) → i ≡ n → Stores g n room l i → room ≡ n → l ≡ valuesOf g n
+  filled l i e p r =
+      let m : length l ≤ n = omega (arith, p .size, r) in
+      sym (take-all n l m) ∙ ap (λ (k : ℕ). take k l) (sym e) ∙ p .done r ∙ ap (valuesOf g) e

@@ -15,6 +15,7 @@ use Rattle.mesh.specs.Records.{secondAt, conditionAt, linkAt}
 use Rattle.mesh.specs.Search.{lower}
 use Rattle.mesh.specs.Vector.{difference}
 use Rattle.mesh.specs.declared.Answer.{Answer}
+use Rattle.mesh.specs.declared.Answer.the-variants.{Accepted}
 use Rattle.mesh.specs.declared.Condition.{Condition}
 use Rattle.mesh.specs.declared.Condition.the-variants.{Absent, Fixed, ZeroGradient}
 use Rattle.mesh.specs.declared.Counts.{Counts}
@@ -22,7 +23,7 @@ use Rattle.mesh.specs.declared.Found.{Found}
 use Rattle.mesh.specs.declared.Outcome.{Outcome}
 use Rattle.mesh.specs.declared.Outcome.the-variants.{Value}
 use Rattle.coupling.specs.Face.{linkedCoefficient, fixedCoefficient}
-use Rattle.simple.specs.Coefficients.{internalAt}
+use Rattle.simple.specs.Coefficients.{internalAt, coefficientAnswer, coefficients}
 use Rattle.simple.specs.Grid.{Grid, Field, ownerOf, behindOf, faceCentre, faceArea, centre, spanTo, pairAt, gridSized}
 use Rattle.simple.specs.Staged.{twoRefusals}
 
@@ -61,6 +62,10 @@ boundaryAnswer m k responses faces = twoRefusals (internalAt m responses) (coeff
 
 abbrev pub boundaryCoefficients : Grid → Bounds → List Float → ℕ → List Float
 boundaryCoefficients m k responses faces = valuesOf (coefficientAt m k responses) faces
+
+-- a list that holds the coefficients of the faces with two cells, none of which refuses
+abbrev pub Begun : Grid → List Float → List Float → Type 0
+Begun m responses l = (coefficientAnswer m responses (length l) ≡ Accepted) × (l ≡ coefficients m responses (length l))
 
 -- ---- the entry
 

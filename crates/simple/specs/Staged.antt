@@ -52,3 +52,12 @@ lateAfter a (Late k) i = after a (Bad k) i
 -- a pass that answers a, and leaves l where it accepts
 abbrev pub Passes : Answer → List Float → Answer → List Float → Type 0
 Passes a l r new = (r ≡ a) × (r ≡ Accepted → new ≡ l)
+
+-- the list with the number of item i, where the item has one
+unfoldable pub storedAt : List Float → ℕ → Outcome → List Float
+storedAt l i (Value v) = set l i v
+storedAt l i (Bad k) = l
+
+-- a pass over n items that fills a list with l, where the list has room for all of them
+abbrev pub Fills : ℕ → ℕ → List Float → Answer → List Float → Type 0
+Fills room n l r new = room ≡ n → r ≡ Accepted → new ≡ l

@@ -329,22 +329,26 @@ pub fn rhie_chow_predicted_flux(
         out.len(),
     );
     match a {
-        Answer::Accepted => inner::prediction::rhie_chow_predicted_flux(
-            adjacency,
-            geometry,
-            places,
-            records,
-            starts,
-            equations,
-            weights,
-            inverses,
-            velocities,
-            pressures,
-            responses,
-            walls,
-            gradient,
-            out,
-        ),
+        Answer::Accepted => {
+            let mut none = [0.0; 0];
+            inner::prediction::rhie_chow_predicted_flux(
+                adjacency,
+                geometry,
+                places,
+                records,
+                starts,
+                equations,
+                weights,
+                inverses,
+                velocities,
+                pressures,
+                responses,
+                walls,
+                &mut none,
+                gradient,
+                out,
+            )
+        }
         Answer::Refused(k, i) => Answer::Refused(k, i),
     }
 }

@@ -10,7 +10,7 @@ ghost use Rattle.numerics.specs.Gradient.{gradients};
 ghost use Rattle.numerics.specs.Lent.{lent, Good};
 ghost use Rattle.numerics.specs.Outflow.{Flows, outflows};
 ghost use Rattle.numerics.specs.Stencil.{stencilAnswer, stencilStarts, stencilEquations, stencilWeights, stencilInverses};
-ghost use Rattle.simple.specs.Boundary.{bounds, Bounded, boundaryAnswer, boundaryCoefficients};
+ghost use Rattle.simple.specs.Boundary.{bounds, Bounded, Begun, boundaryAnswer, boundaryCoefficients};
 ghost use Rattle.simple.specs.Correction.{correcting, Correctable, correctionAnswer, correctedFluxes};
 ghost use Rattle.simple.specs.Grid.{grid, Coupled};
 ghost use Rattle.simple.specs.Metrics.{metricsOf, metricsAnswer, metricsNumbers};
@@ -54,7 +54,8 @@ fn measure(
     }
 }
 
-// The coefficients of all faces, and the flux that is corrected with them.
+// The coefficients of all faces, of which those with two cells stand there already, and the flux that
+// is corrected with them.
 fn correct(
     adjacency: &[usize],
     geometry: &[f64],
@@ -69,12 +70,13 @@ fn correct(
 ) -> Answer
     requires { ⌜ Coupled (grid (now adjacency) (now geometry) (now places)) (length (now responses)) (length (now coefficients)) ⌝ }
     requires { ⌜ Bounded (bounds (now codes) (now values)) (length (now coefficients)) ⌝ }
+    requires { ⌜ Begun (grid (now adjacency) (now geometry) (now places)) (now responses) (now coefficients) ⌝ }
     requires { ⌜ Correctable (correcting (now adjacency) (now codes) (now values) (now predicted) (now coefficients) (now corrections)) ⌝ }
     requires { ⌜ length (now flux) ≡ length (now predicted) ⌝ }
     ensures { λ r. ⌜ r ≡ orElse (boundaryAnswer (grid (now (adjacency .entry)) (now (geometry .entry)) (now (places .entry))) (bounds (now (codes .entry)) (now (values .entry))) (now (responses .entry)) (length (now (coefficients .entry)))) (correctionAnswer (correcting (now (adjacency .entry)) (now (codes .entry)) (now (values .entry)) (now (predicted .entry)) (boundaryCoefficients (grid (now (adjacency .entry)) (now (geometry .entry)) (now (places .entry))) (bounds (now (codes .entry)) (now (values .entry))) (now (responses .entry)) (length (now (coefficients .entry)))) (now (corrections .entry)))) ⌝ }
     ensures { λ r. ⌜ IfAccepted r ((now (coefficients .exit) ≡ boundaryCoefficients (grid (now (adjacency .entry)) (now (geometry .entry)) (now (places .entry))) (bounds (now (codes .entry)) (now (values .entry))) (now (responses .entry)) (length (now (coefficients .entry)))) × (now (flux .exit) ≡ correctedFluxes (correcting (now (adjacency .entry)) (now (codes .entry)) (now (values .entry)) (now (predicted .entry)) (boundaryCoefficients (grid (now (adjacency .entry)) (now (geometry .entry)) (now (places .entry))) (bounds (now (codes .entry)) (now (values .entry))) (now (responses .entry)) (length (now (coefficients .entry)))) (now (corrections .entry))))) ⌝ }
 {
-    let a = simple::inner::boundary::pressure_face_coefficients_with_boundary(
+    let a = simple::inner::boundary::complete(
         adjacency,
         geometry,
         places,
@@ -97,7 +99,8 @@ fn correct(
     }
 }
 
-// The stencil, the gradient of the pressure by it, and the flux that is predicted with that.
+// The stencil, the gradient of the pressure by it, and the flux that is predicted with that and with
+// the coefficients of the faces with two cells, which are left in `coefficients`.
 fn predict(
     counts: Counts,
     adjacency: &[usize],
@@ -113,6 +116,7 @@ fn predict(
     pressures: &[f64],
     responses: &[f64],
     walls: &[f64],
+    coefficients: &mut [f64],
     starts: &mut [usize],
     equations: &mut [usize],
     weights: &mut [f64],
@@ -123,10 +127,11 @@ fn predict(
     requires { ⌜ Good (lent counts (now adjacency) (now geometry) (now heads) (now places) (now facing) (now bordering) (now codes) (now values)) ⌝ }
     requires { ⌜ (length (now starts) ≡ counts .cells) × (length (now equations) ≡ 2 * records) × (length (now weights) ≡ 4 * records) × (length (now inverses) ≡ 9 * (counts .cells)) × (records < 65536) ⌝ }
     requires { ⌜ Flowing (grid (now adjacency) (now geometry) (now places)) (flow (now velocities) (now pressures) (now gradient) (now responses)) (length (now walls)) ⌝ }
-    requires { ⌜ (length (now pressures) ≡ counts .cells) × (length (now predicted) ≡ length (now walls)) ⌝ }
+    requires { ⌜ (length (now pressures) ≡ counts .cells) × (length (now predicted) ≡ length (now walls)) × (length (now coefficients) ≡ length (now walls)) ⌝ }
     ensures { λ r. ⌜ r ≡ orElse (stencilAnswer (lent counts (now (adjacency .entry)) (now (geometry .entry)) (now (heads .entry)) (now (places .entry)) (now (facing .entry)) (now (bordering .entry)) (now (codes .entry)) (now (values .entry))) records) (predictionAnswer (grid (now (adjacency .entry)) (now (geometry .entry)) (now (places .entry))) (flow (now (velocities .entry)) (now (pressures .entry)) (gradients (slices (stencilStarts (lent counts (now (adjacency .entry)) (now (geometry .entry)) (now (heads .entry)) (now (places .entry)) (now (facing .entry)) (now (bordering .entry)) (now (codes .entry)) (now (values .entry))) records) (stencilEquations (lent counts (now (adjacency .entry)) (now (geometry .entry)) (now (heads .entry)) (now (places .entry)) (now (facing .entry)) (now (bordering .entry)) (now (codes .entry)) (now (values .entry))) records) (stencilWeights (lent counts (now (adjacency .entry)) (now (geometry .entry)) (now (heads .entry)) (now (places .entry)) (now (facing .entry)) (now (bordering .entry)) (now (codes .entry)) (now (values .entry))) records) (stencilInverses (lent counts (now (adjacency .entry)) (now (geometry .entry)) (now (heads .entry)) (now (places .entry)) (now (facing .entry)) (now (bordering .entry)) (now (codes .entry)) (now (values .entry))) records)) records (now (pressures .entry)) (length (now (pressures .entry)))) (now (responses .entry))) (now (walls .entry))) ⌝ }
     ensures { λ r. ⌜ IfAccepted r ((now (starts .exit) ≡ stencilStarts (lent counts (now (adjacency .entry)) (now (geometry .entry)) (now (heads .entry)) (now (places .entry)) (now (facing .entry)) (now (bordering .entry)) (now (codes .entry)) (now (values .entry))) records) × (now (equations .exit) ≡ stencilEquations (lent counts (now (adjacency .entry)) (now (geometry .entry)) (now (heads .entry)) (now (places .entry)) (now (facing .entry)) (now (bordering .entry)) (now (codes .entry)) (now (values .entry))) records) × (now (weights .exit) ≡ stencilWeights (lent counts (now (adjacency .entry)) (now (geometry .entry)) (now (heads .entry)) (now (places .entry)) (now (facing .entry)) (now (bordering .entry)) (now (codes .entry)) (now (values .entry))) records) × (now (inverses .exit) ≡ stencilInverses (lent counts (now (adjacency .entry)) (now (geometry .entry)) (now (heads .entry)) (now (places .entry)) (now (facing .entry)) (now (bordering .entry)) (now (codes .entry)) (now (values .entry))) records)) ⌝ }
     ensures { λ r. ⌜ IfAccepted r ((now (gradient .exit) ≡ gradients (slices (stencilStarts (lent counts (now (adjacency .entry)) (now (geometry .entry)) (now (heads .entry)) (now (places .entry)) (now (facing .entry)) (now (bordering .entry)) (now (codes .entry)) (now (values .entry))) records) (stencilEquations (lent counts (now (adjacency .entry)) (now (geometry .entry)) (now (heads .entry)) (now (places .entry)) (now (facing .entry)) (now (bordering .entry)) (now (codes .entry)) (now (values .entry))) records) (stencilWeights (lent counts (now (adjacency .entry)) (now (geometry .entry)) (now (heads .entry)) (now (places .entry)) (now (facing .entry)) (now (bordering .entry)) (now (codes .entry)) (now (values .entry))) records) (stencilInverses (lent counts (now (adjacency .entry)) (now (geometry .entry)) (now (heads .entry)) (now (places .entry)) (now (facing .entry)) (now (bordering .entry)) (now (codes .entry)) (now (values .entry))) records)) records (now (pressures .entry)) (length (now (pressures .entry)))) × (now (predicted .exit) ≡ predictedFluxes (grid (now (adjacency .entry)) (now (geometry .entry)) (now (places .entry))) (flow (now (velocities .entry)) (now (pressures .entry)) (gradients (slices (stencilStarts (lent counts (now (adjacency .entry)) (now (geometry .entry)) (now (heads .entry)) (now (places .entry)) (now (facing .entry)) (now (bordering .entry)) (now (codes .entry)) (now (values .entry))) records) (stencilEquations (lent counts (now (adjacency .entry)) (now (geometry .entry)) (now (heads .entry)) (now (places .entry)) (now (facing .entry)) (now (bordering .entry)) (now (codes .entry)) (now (values .entry))) records) (stencilWeights (lent counts (now (adjacency .entry)) (now (geometry .entry)) (now (heads .entry)) (now (places .entry)) (now (facing .entry)) (now (bordering .entry)) (now (codes .entry)) (now (values .entry))) records) (stencilInverses (lent counts (now (adjacency .entry)) (now (geometry .entry)) (now (heads .entry)) (now (places .entry)) (now (facing .entry)) (now (bordering .entry)) (now (codes .entry)) (now (values .entry))) records)) records (now (pressures .entry)) (length (now (pressures .entry)))) (now (responses .entry))) (now (walls .entry)))) ⌝ }
+    ensures { λ r. ⌜ IfAccepted r (Begun (grid (now (adjacency .entry)) (now (geometry .entry)) (now (places .entry))) (now (responses .entry)) (now (coefficients .exit))) ⌝ }
 {
     let a = numerics::inner::stencil::least_squares_stencil(
         counts,
@@ -158,6 +163,7 @@ fn predict(
             pressures,
             responses,
             walls,
+            coefficients,
             gradient,
             predicted,
         ),
@@ -213,6 +219,7 @@ fn run(
         pressures,
         responses,
         walls,
+        coefficients,
         starts,
         equations,
         weights,

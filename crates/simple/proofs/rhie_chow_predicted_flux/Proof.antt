@@ -37,17 +37,29 @@ passed : (s : tie.Start) → predictionChecks (s .args .counts) (meshAt s) (s .a
     → Predictable (s .args .counts) (meshAt s) (s .args .records) (stencilAt s) (lentAt s) (length (now (s .args .gradient))) (length (now (s .args .out)))
 passed s h = prediction-passed (s .args .counts) (meshAt s) (s .args .stencil) (s .args .records) (stencilAt s) (lentAt s) (length (now (s .args .gradient))) (length (now (s .args .out))) h
 
+abbrev startAt : tie.After-check-prediction → tie.Start
+startAt c = search
+
+abbrev checkedAt : tie.After-enum-told → tie.After-check-prediction
+checkedAt c = search
+
+abbrev toldAt : tie.After-rhie-chow-predicted-flux → tie.After-enum-told
+toldAt c = search
+
 check-prediction-requires : tie.Need-check-prediction-requires
 check-prediction-requires c κs = search needs
 
 enum-told : tie.Need-enum-told
 enum-told c = search needs
 
+slice-aggregate-rhie-chow-predicted-flux : tie.Need-slice-aggregate-rhie-chow-predicted-flux
+slice-aggregate-rhie-chow-predicted-flux c = search needs
+
 rhie-chow-predicted-flux-requires : tie.Need-rhie-chow-predicted-flux-requires
 rhie-chow-predicted-flux-requires c κs =
-    let s : tie.Start = search in
-    let k : tie.After-check-prediction = search in
     let e : tie.After-enum-told = search in
+    let k = checkedAt e in
+    let s = startAt k in
     let p = passed s (sym (k .check-prediction .ensures) ∙ e .enum-told .given .1) in
     (p .sloped, (record { coupled = p .coupled; velocity = p .velocity; gradient = p .gradient; responses = p .responses }, p .out))
 
@@ -63,10 +75,10 @@ same-length-2 c = search needs
 returns : tie.Need-returns
 unfolding orElse unless
 returns c =
-    let s : tie.Start = search in
-    let k : tie.After-check-prediction = search in
-    let e : tie.After-enum-told = search in
     let w : tie.After-rhie-chow-predicted-flux = search in
+    let e = toldAt w in
+    let k = checkedAt e in
+    let s = startAt k in
     let a = sym (k .check-prediction .ensures) ∙ e .enum-told .given .1 in
     let p = passed s a in
     let r = w .rhie-chow-predicted-flux .result in
@@ -80,7 +92,7 @@ returns c =
           ∙ ap (λ (n : ℕ). handedOut r (3 * n) (slopesAt s n)) (p .cells));
       out =
           rw a
-          (w .rhie-chow-predicted-flux .ensures .1 .1
+          (w .rhie-chow-predicted-flux .ensures .1 .1 .0
           ∙ ap (λ (n : ℕ). handedOut r n (predictedFluxes (meshAt s) (flowAt s (length (now (s .args .pressures)))) walls)) (p .faces)
           ∙ ap (λ (n : ℕ). handedOut r (s .args .counts .faces) (predictedFluxes (meshAt s) (flowAt s n) walls)) (p .cells));
     }
@@ -98,6 +110,7 @@ rhie-chow-predicted-flux-spec =
     (tie.spec
     check-prediction-requires
     enum-told
+    slice-aggregate-rhie-chow-predicted-flux
     rhie-chow-predicted-flux-requires
     enum-known-a
     same-length

@@ -4,8 +4,9 @@ ghost use Prim.Native.Nat.{_+_, _*_, _<_};
 ghost use lib.ListN.{length, getD};
 ghost use lib.Ieee.{nan};
 ghost use Rattle.mesh.specs.Pass.{handedOut};
+ghost use Rattle.mesh.specs.declared.Outcome.the-variants.{Value};
 ghost use Rattle.mesh.specs.Records.{faceAt, secondAt};
-ghost use Rattle.simple.specs.Boundary.{bounds, Bounded, byCondition, linkedAt, boundaryAt, coefficientAt, boundaryAnswer, boundaryCoefficients};
+ghost use Rattle.simple.specs.Boundary.{bounds, Bounded, Begun, byCondition, linkedAt, boundaryAt, coefficientAt, boundaryAnswer, boundaryCoefficients};
 ghost use Rattle.simple.specs.Coefficients.{internalAt};
 ghost use Rattle.simple.specs.Grid.{grid, Coupled};
 ghost use Rattle.simple.specs.Staged.{staged, Passes};
@@ -191,4 +192,72 @@ pub fn pressure_face_coefficients_with_boundary(
 {
     let a = fill(adjacency, geometry, places, codes, values, responses, out);
     settle(out, a)
+}
+
+// The coefficient of the face f; that of a face with two cells stands in `out` already.
+fn completed_at(
+    adjacency: &[usize],
+    geometry: &[f64],
+    places: &[f64],
+    codes: &[usize],
+    values: &[f64],
+    responses: &[f64],
+    out: &[f64],
+    f: usize,
+) -> Outcome
+    requires { ⌜ Coupled (grid (now adjacency) (now geometry) (now places)) (length (now responses)) (length (now out)) ⌝ }
+    requires { ⌜ Bounded (bounds (now codes) (now values)) (length (now out)) ⌝ }
+    requires { ⌜ (f < length (now out)) × (internalAt (grid (now adjacency) (now geometry) (now places)) (now responses) f ≡ Value (getD (now out) f nan)) ⌝ }
+    ensures { λ r. ⌜ r ≡ coefficientAt (grid (now (adjacency .entry)) (now (geometry .entry)) (now (places .entry))) (bounds (now (codes .entry)) (now (values .entry))) (now (responses .entry)) f ⌝ }
+{
+    let neighbour = mesh::inner::second_of(adjacency, f);
+    if neighbour == 0 {
+        return boundary_at(
+            adjacency,
+            geometry,
+            places,
+            codes,
+            values,
+            responses,
+            out.len(),
+            f,
+        );
+    }
+    Outcome::Value(out[f])
+}
+
+// Writes the coefficients of the faces with one cell up to the first refusal; those of the faces with
+// two cells stand in `out` already.
+pub fn complete(
+    adjacency: &[usize],
+    geometry: &[f64],
+    places: &[f64],
+    codes: &[usize],
+    values: &[f64],
+    responses: &[f64],
+    out: &mut [f64],
+) -> Answer
+    requires { ⌜ Coupled (grid (now adjacency) (now geometry) (now places)) (length (now responses)) (length (now out)) ⌝ }
+    requires { ⌜ Bounded (bounds (now codes) (now values)) (length (now out)) ⌝ }
+    requires { ⌜ Begun (grid (now adjacency) (now geometry) (now places)) (now responses) (now out) ⌝ }
+    ensures { λ r. ⌜ Passes (boundaryAnswer (grid (now (adjacency .entry)) (now (geometry .entry)) (now (places .entry))) (bounds (now (codes .entry)) (now (values .entry))) (now (responses .entry)) (length (now (out .entry)))) (boundaryCoefficients (grid (now (adjacency .entry)) (now (geometry .entry)) (now (places .entry))) (bounds (now (codes .entry)) (now (values .entry))) (now (responses .entry)) (length (now (out .entry)))) r (now (out .exit)) ⌝ }
+{
+    let mut f = 0;
+    while f < out.len() {
+        match completed_at(
+            adjacency,
+            geometry,
+            places,
+            codes,
+            values,
+            responses,
+            out,
+            f,
+        ) {
+            Outcome::Value(v) => out[f] = v,
+            Outcome::Bad(k) => return Answer::Refused(k, f),
+        }
+        f += 1;
+    }
+    Answer::Accepted
 }

@@ -6,10 +6,10 @@ ghost use Rattle.mesh.specs.Pass.{handedOut};
 ghost use Rattle.mesh.specs.Records.{secondAt};
 ghost use Rattle.numerics.specs.Checks.{slices};
 ghost use Rattle.numerics.specs.Gradient.{gradients, Sloped};
-ghost use Rattle.simple.specs.Coefficients.{internalAt};
+ghost use Rattle.simple.specs.Coefficients.{internalAt, coefficients};
 ghost use Rattle.simple.specs.Grid.{grid, Coupled};
 ghost use Rattle.simple.specs.Prediction.{flow, sideAt, predictedAt, predictionAnswer, predictedFluxes, Flowing};
-ghost use Rattle.simple.specs.Staged.{staged, Passes};
+ghost use Rattle.simple.specs.Staged.{staged, storedAt, Passes, Fills};
 use crate::inner::coefficients::distances_at;
 use crate::inner::coefficients::pair_at;
 use crate::inner::coefficients::span_to;
@@ -19,6 +19,7 @@ use crate::inner::stage::is_early;
 use crate::inner::stage::keep;
 use crate::inner::stage::late;
 use crate::inner::stage::settle;
+use crate::inner::stage::store;
 use coupling::Side;
 use mesh::Answer;
 use mesh::Face;
@@ -44,7 +45,8 @@ fn side_at(
     }
 }
 
-// The flux of the face f between two cells; its coefficient refuses before any flux.
+// The flux of the face f between two cells; its coefficient, which is stored where there is room,
+// refuses before any flux.
 fn between(
     adjacency: &[usize],
     geometry: &[f64],
@@ -55,10 +57,12 @@ fn between(
     responses: &[f64],
     walls: &[f64],
     f: usize,
+    internal: &mut [f64],
 ) -> Stage
     requires { ⌜ Flowing (grid (now adjacency) (now geometry) (now places)) (flow (now velocity) (now pressure) (now gradient) (now responses)) (length (now walls)) ⌝ }
     requires { ⌜ (f < length (now walls)) × (0 < secondAt (now adjacency) f) ⌝ }
     ensures { λ r. ⌜ r ≡ staged (internalAt (grid (now (adjacency .entry)) (now (geometry .entry)) (now (places .entry))) (now (responses .entry)) f) (predictedAt (grid (now (adjacency .entry)) (now (geometry .entry)) (now (places .entry))) (flow (now (velocity .entry)) (now (pressure .entry)) (now (gradient .entry)) (now (responses .entry))) (now (walls .entry)) f) ⌝ }
+    ensures { λ _. ⌜ now (internal .exit) ≡ storedAt (now (internal .entry)) f (internalAt (grid (now (adjacency .entry)) (now (geometry .entry)) (now (places .entry))) (now (responses .entry)) f) ⌝ }
 {
     let face = mesh::inner::face_at(adjacency, geometry, f);
     let n = face.neighbour - 1;
@@ -68,6 +72,7 @@ fn between(
     let r = pair_at(responses, face.owner, n);
     match coupling::internal_coefficient(span, d, r) {
         Outcome::Value(k) => {
+            store(internal, f, k);
             let a = side_at(velocity, pressure, gradient, responses, face.owner);
             let b = side_at(velocity, pressure, gradient, responses, n);
             late(coupling::predicted_flux(span, d, k, a, b))
@@ -87,13 +92,16 @@ fn stage_at(
     responses: &[f64],
     walls: &[f64],
     f: usize,
+    internal: &mut [f64],
 ) -> Stage
     requires { ⌜ Flowing (grid (now adjacency) (now geometry) (now places)) (flow (now velocity) (now pressure) (now gradient) (now responses)) (length (now walls)) ⌝ }
     requires { ⌜ f < length (now walls) ⌝ }
     ensures { λ r. ⌜ r ≡ staged (internalAt (grid (now (adjacency .entry)) (now (geometry .entry)) (now (places .entry))) (now (responses .entry)) f) (predictedAt (grid (now (adjacency .entry)) (now (geometry .entry)) (now (places .entry))) (flow (now (velocity .entry)) (now (pressure .entry)) (now (gradient .entry)) (now (responses .entry))) (now (walls .entry)) f) ⌝ }
+    ensures { λ _. ⌜ now (internal .exit) ≡ storedAt (now (internal .entry)) f (internalAt (grid (now (adjacency .entry)) (now (geometry .entry)) (now (places .entry))) (now (responses .entry)) f) ⌝ }
 {
     let neighbour = mesh::inner::second_of(adjacency, f);
     if neighbour == 0 {
+        store(internal, f, 0.0);
         return Stage::Kept(walls[f]);
     }
     between(
@@ -106,10 +114,12 @@ fn stage_at(
         responses,
         walls,
         f,
+        internal,
     )
 }
 
-// Writes the fluxes up to the first refusal of a coefficient.
+// Writes the fluxes up to the first refusal of a coefficient, and the coefficients of the faces with
+// two cells where there is room for all.
 fn predict(
     adjacency: &[usize],
     geometry: &[f64],
@@ -119,11 +129,13 @@ fn predict(
     gradient: &[f64],
     responses: &[f64],
     walls: &[f64],
+    internal: &mut [f64],
     out: &mut [f64],
 ) -> Answer
     requires { ⌜ Flowing (grid (now adjacency) (now geometry) (now places)) (flow (now velocity) (now pressure) (now gradient) (now responses)) (length (now walls)) ⌝ }
     requires { ⌜ length (now out) ≡ length (now walls) ⌝ }
     ensures { λ r. ⌜ Passes (predictionAnswer (grid (now (adjacency .entry)) (now (geometry .entry)) (now (places .entry))) (flow (now (velocity .entry)) (now (pressure .entry)) (now (gradient .entry)) (now (responses .entry))) (now (walls .entry))) (predictedFluxes (grid (now (adjacency .entry)) (now (geometry .entry)) (now (places .entry))) (flow (now (velocity .entry)) (now (pressure .entry)) (now (gradient .entry)) (now (responses .entry))) (now (walls .entry))) r (now (out .exit)) ⌝ }
+    ensures { λ r. ⌜ Fills (length (now (internal .entry))) (length (now (walls .entry))) (coefficients (grid (now (adjacency .entry)) (now (geometry .entry)) (now (places .entry))) (now (responses .entry)) (length (now (walls .entry)))) r (now (internal .exit)) ⌝ }
 {
     let mut a = Answer::Accepted;
     let mut f = 0;
@@ -138,6 +150,7 @@ fn predict(
             responses,
             walls,
             f,
+            internal,
         );
         if is_early(s) {
             return Answer::Refused(early_number(s), f);
@@ -158,12 +171,14 @@ pub fn predicted_flux(
     gradient: &[f64],
     responses: &[f64],
     walls: &[f64],
+    internal: &mut [f64],
     out: &mut [f64],
 ) -> Answer
     requires { ⌜ Flowing (grid (now adjacency) (now geometry) (now places)) (flow (now velocity) (now pressure) (now gradient) (now responses)) (length (now walls)) ⌝ }
     requires { ⌜ length (now out) ≡ length (now walls) ⌝ }
     ensures { λ r. ⌜ r ≡ predictionAnswer (grid (now (adjacency .entry)) (now (geometry .entry)) (now (places .entry))) (flow (now (velocity .entry)) (now (pressure .entry)) (now (gradient .entry)) (now (responses .entry))) (now (walls .entry)) ⌝ }
     ensures { λ r. ⌜ now (out .exit) ≡ handedOut r (length (now (walls .entry))) (predictedFluxes (grid (now (adjacency .entry)) (now (geometry .entry)) (now (places .entry))) (flow (now (velocity .entry)) (now (pressure .entry)) (now (gradient .entry)) (now (responses .entry))) (now (walls .entry))) ⌝ }
+    ensures { λ r. ⌜ Fills (length (now (internal .entry))) (length (now (walls .entry))) (coefficients (grid (now (adjacency .entry)) (now (geometry .entry)) (now (places .entry))) (now (responses .entry)) (length (now (walls .entry)))) r (now (internal .exit)) ⌝ }
 {
     let a = predict(
         adjacency,
@@ -174,13 +189,15 @@ pub fn predicted_flux(
         gradient,
         responses,
         walls,
+        internal,
         out,
     );
     settle(out, a)
 }
 
 // The gradient of the pressure from a stencil, and the flux that is predicted with it; a refusal
-// clears both.
+// clears both. Of an accepted call the coefficients of the faces with two cells are left in
+// `internal`, where there is room for all.
 pub fn rhie_chow_predicted_flux(
     adjacency: &[usize],
     geometry: &[f64],
@@ -194,6 +211,7 @@ pub fn rhie_chow_predicted_flux(
     pressure: &[f64],
     responses: &[f64],
     walls: &[f64],
+    internal: &mut [f64],
     gradient: &mut [f64],
     out: &mut [f64],
 ) -> Answer
@@ -203,6 +221,7 @@ pub fn rhie_chow_predicted_flux(
     ensures { λ r. ⌜ r ≡ predictionAnswer (grid (now (adjacency .entry)) (now (geometry .entry)) (now (places .entry))) (flow (now (velocity .entry)) (now (pressure .entry)) (gradients (slices (now (starts .entry)) (now (equations .entry)) (now (weights .entry)) (now (inverses .entry))) records (now (pressure .entry)) (length (now (pressure .entry)))) (now (responses .entry))) (now (walls .entry)) ⌝ }
     ensures { λ r. ⌜ now (gradient .exit) ≡ handedOut r (length (now (gradient .entry))) (gradients (slices (now (starts .entry)) (now (equations .entry)) (now (weights .entry)) (now (inverses .entry))) records (now (pressure .entry)) (length (now (pressure .entry)))) ⌝ }
     ensures { λ r. ⌜ now (out .exit) ≡ handedOut r (length (now (walls .entry))) (predictedFluxes (grid (now (adjacency .entry)) (now (geometry .entry)) (now (places .entry))) (flow (now (velocity .entry)) (now (pressure .entry)) (gradients (slices (now (starts .entry)) (now (equations .entry)) (now (weights .entry)) (now (inverses .entry))) records (now (pressure .entry)) (length (now (pressure .entry)))) (now (responses .entry))) (now (walls .entry))) ⌝ }
+    ensures { λ r. ⌜ Fills (length (now (internal .entry))) (length (now (walls .entry))) (coefficients (grid (now (adjacency .entry)) (now (geometry .entry)) (now (places .entry))) (now (responses .entry)) (length (now (walls .entry)))) r (now (internal .exit)) ⌝ }
 {
     numerics::inner::gradient::least_squares_gradient(
         starts,
@@ -222,6 +241,7 @@ pub fn rhie_chow_predicted_flux(
         gradient,
         responses,
         walls,
+        internal,
         out,
     );
     settle(gradient, a)

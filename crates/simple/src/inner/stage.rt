@@ -2,7 +2,7 @@
 // one pass.
 ghost use mathlib.Core.Path.{_≡_};
 ghost use Prim.Native.Nat.{_<_};
-ghost use lib.ListN.{length};
+ghost use lib.ListN.{length, set};
 ghost use Rattle.mesh.specs.Pass.{handedOut};
 ghost use Rattle.simple.specs.Staged.{lateOf, staged, isEarly, earlyNumber, keptAt, lateAfter};
 ghost use Rattle.simple.specs.declared.inner.stage.Stage.the-variants.{Late};
@@ -78,6 +78,15 @@ pub fn keep(out: &mut [f64], i: usize, s: Stage, a: Answer) -> Answer
         }
         Stage::Early(_) => a,
         Stage::Late(k) => first_late(a, k, i),
+    }
+}
+
+// Writes v at i, where there is room.
+pub fn store(out: &mut [f64], i: usize, v: f64)
+    ensures { λ _. ⌜ now (out .exit) ≡ set (now (out .entry)) i v ⌝ }
+{
+    if i < out.len() {
+        out[i] = v;
     }
 }
 

@@ -14,9 +14,8 @@ use Rattle.step.proofs.work.correct.Tie as tie
 abbrev with : tie.Start → List Float → Correcting
 with s k = correcting (now (s .args .adjacency)) (now (s .args .codes)) (now (s .args .values)) (now (s .args .predicted)) k (now (s .args .corrections))
 
-pressure-face-coefficients-with-boundary-requires :
-    tie.Need-pressure-face-coefficients-with-boundary-requires
-pressure-face-coefficients-with-boundary-requires c κs = search needs
+complete-requires : tie.Need-complete-requires
+complete-requires c κs = search needs
 
 enum-told : tie.Need-enum-told
 enum-told c = search needs
@@ -24,9 +23,9 @@ enum-told c = search needs
 correct-face-flux-requires : tie.Need-correct-face-flux-requires
 correct-face-flux-requires c κs =
     let s : tie.Start = search in
-    let b : tie.After-pressure-face-coefficients-with-boundary = search in (
-      with-coefficients (now (s .args .adjacency)) (now (s .args .codes)) (now (s .args .values)) (now (s .args .predicted)) (now (s .args .coefficients)) _ (now (s .args .corrections)) (b .pressure-face-coefficients-with-boundary .kept .1 .1 .1 .1 .1 .1 .0) (s .pre .1 .1 .0),
-      s .pre .1 .1 .1,
+    let b : tie.After-complete = search in (
+      with-coefficients (now (s .args .adjacency)) (now (s .args .codes)) (now (s .args .values)) (now (s .args .predicted)) (now (s .args .coefficients)) _ (now (s .args .corrections)) (b .complete .kept .1 .1 .1 .1 .1 .1 .0) (s .pre .1 .1 .1 .0),
+      s .pre .1 .1 .1 .1,
     )
 
 enum-known-a : tie.Need-enum-known-a
@@ -42,12 +41,12 @@ returns : tie.Need-returns
 unfolding orElse
 returns c =
     let s : tie.Start = search in
-    let b : tie.After-pressure-face-coefficients-with-boundary = search in
+    let b : tie.After-complete = search in
     let e : tie.After-enum-told = search in
     let f : tie.After-correct-face-flux = search in
-    let x = b .pressure-face-coefficients-with-boundary .ensures in
+    let x = b .complete .ensures in
     let y = f .correct-face-flux .ensures in
-    let out = x .1 ∙ handed-out _ _ _ (e .enum-told .given .1) in (
+    let out = x .1 (e .enum-told .given .1) in (
       rw (sym (x .0) ∙ e .enum-told .given .1) (y .0 ∙ ap (λ (k : List Float). correctionAnswer (with s k)) out),
       λ ok. (out, y .1 ∙ handed-out _ _ _ ok ∙ ap (λ (k : List Float). correctedFluxes (with s k)) out),
     )
@@ -58,15 +57,15 @@ same-length-3 c = search needs
 returns-2 : tie.Need-returns-2
 unfolding orElse
 returns-2 c =
-    let b : tie.After-pressure-face-coefficients-with-boundary = search in
+    let b : tie.After-complete = search in
     let k : tie.After-a = search in
-    (rw (sym (b .pressure-face-coefficients-with-boundary .ensures .0) ∙ k .a .given .1), λ ok. absurd (never-accepted _ _ ok))
+    (rw (sym (b .complete .ensures .0) ∙ k .a .given .1), λ ok. absurd (never-accepted _ _ ok))
 
 pub correct-spec : {M : Type 1} → statement M
 correct-spec =
     tie.close
     (tie.spec
-    pressure-face-coefficients-with-boundary-requires
+    complete-requires
     enum-told
     correct-face-flux-requires
     enum-known-a

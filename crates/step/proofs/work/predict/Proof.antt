@@ -1,6 +1,6 @@
 -- `step::work::predict` meets its contract: the stencil, and the flux predicted by it.
 use Rattle.simple.proofs.Stages.{handed-out, never-accepted}
-use Rattle.scheme.proofs.Parts.{same-slices, sloped}
+use Rattle.scheme.proofs.Parts.{begun, same-slices, sloped}
 use Rattle.simple.specs.Grid.{Grid, grid}
 use Rattle.simple.specs.Prediction.{Flow, flow, predictionAnswer, predictedFluxes}
 use Rattle.numerics.specs.Checks.{Slices, slices}
@@ -21,6 +21,9 @@ startAt c = search
 
 abbrev toldAt : tie.After-rhie-chow-predicted-flux → tie.After-enum-told
 toldAt c = search
+
+abbrev builtAt : tie.After-enum-told → tie.After-least-squares-stencil
+builtAt c = search
 
 abbrev lentAt : tie.Start → Lent
 lentAt s = lent (s .args .counts) (now (s .args .adjacency)) (now (s .args .geometry)) (now (s .args .heads)) (now (s .args .places)) (now (s .args .facing)) (now (s .args .bordering)) (now (s .args .codes)) (now (s .args .values))
@@ -43,9 +46,9 @@ enum-told c = search needs
 
 rhie-chow-predicted-flux-requires : tie.Need-rhie-chow-predicted-flux-requires
 rhie-chow-predicted-flux-requires c κs =
-    let a : tie.After-least-squares-stencil = search in
-    let s = startAt a in
     let e : tie.After-enum-told = search in
+    let a = builtAt e in
+    let s = startAt a in
     let x = a .least-squares-stencil .ensures in
     let n = a .least-squares-stencil .kept .1 .1 .1 .1 .1 .1 .1 .1 .1 .1 in
     let z = s .pre .1 .0 in (
@@ -74,13 +77,16 @@ same-length-5 c = search needs
 same-length-6 : tie.Need-same-length-6
 same-length-6 c = search needs
 
+same-length-7 : tie.Need-same-length-7
+same-length-7 c = search needs
+
 returns : tie.Need-returns
 unfolding orElse
 returns c =
-    let a : tie.After-least-squares-stencil = search in
-    let s = startAt a in
     let f : tie.After-rhie-chow-predicted-flux = search in
     let e = toldAt f in
+    let a = builtAt e in
+    let s = startAt a in
     let x = a .least-squares-stencil .ensures in
     let y = f .rhie-chow-predicted-flux .ensures in
     let t = same-slices _ _ _ _ _ _ _ _ (x .1 .0) (x .1 .1 .0) (x .1 .1 .1 .0) (x .1 .1 .1 .1) in
@@ -88,12 +94,12 @@ returns c =
       rw (sym (x .0) ∙ e .enum-told .given .1) (y .0 ∙ ap (λ (t : Slices). predictionAnswer (gridAt s) (flowBy s t) walls) t),
       (
         λ _. (x .1 .0, x .1 .1 .0, x .1 .1 .1 .0, x .1 .1 .1 .1),
-        λ ok. (y .1 .0 ∙ handed-out _ _ _ ok ∙ ap (slopesBy s) t, y .1 .1 ∙ handed-out _ _ _ ok ∙ ap (λ (t : Slices). predictedFluxes (gridAt s) (flowBy s t) walls) t),
+        (
+          λ ok. (y .1 .0 ∙ handed-out _ _ _ ok ∙ ap (slopesBy s) t, y .1 .1 .0 ∙ handed-out _ _ _ ok ∙ ap (λ (t : Slices). predictedFluxes (gridAt s) (flowBy s t) walls) t),
+          λ ok. begun (gridAt s) _ walls _ (sym (y .0) ∙ ok) (f .rhie-chow-predicted-flux .kept .1 .1 .1 .1 .1 .1 .1 .1 .1 .1 .1 .1 .0 ∙ s .pre .1 .1 .1 .2) (y .1 .1 .1 (s .pre .1 .1 .1 .2) ok),
+        ),
       ),
     )
-
-same-length-7 : tie.Need-same-length-7
-same-length-7 c = search needs
 
 same-length-8 : tie.Need-same-length-8
 same-length-8 c = search needs
@@ -104,12 +110,15 @@ same-length-9 c = search needs
 same-length-10 : tie.Need-same-length-10
 same-length-10 c = search needs
 
+same-length-11 : tie.Need-same-length-11
+same-length-11 c = search needs
+
 returns-2 : tie.Need-returns-2
 unfolding orElse
 returns-2 c =
     let a : tie.After-least-squares-stencil = search in
     let k : tie.After-a = search in
-    (rw (sym (a .least-squares-stencil .ensures .0) ∙ k .a .given .1), (λ ok. absurd (never-accepted _ _ ok), λ ok. absurd (never-accepted _ _ ok)))
+    (rw (sym (a .least-squares-stencil .ensures .0) ∙ k .a .given .1), (λ ok. absurd (never-accepted _ _ ok), (λ ok. absurd (never-accepted _ _ ok), λ ok. absurd (never-accepted _ _ ok))))
 
 pub predict-spec : {M : Type 1} → statement M
 predict-spec =
@@ -125,9 +134,10 @@ predict-spec =
     same-length-4
     same-length-5
     same-length-6
-    returns
     same-length-7
+    returns
     same-length-8
     same-length-9
     same-length-10
+    same-length-11
     returns-2)

@@ -44,7 +44,7 @@ predict-requires c κs =
       lent-stencil d ready,
       (
         (out .starts, out .equations, out .weights, out .inverses, omega (arith, ready .few)),
-        (flowing d ready (now (s .args .gradient)) (out .gradient), (ready .pressure, out .predicted ∙ sym (ready .walls))),
+        (flowing d ready (now (s .args .gradient)) (out .gradient), (ready .pressure, out .predicted ∙ sym (ready .walls), out .coefficients ∙ sym (ready .walls))),
       ),
     )
 
@@ -59,11 +59,12 @@ correct-requires c κs =
     let d = givenAt s in
     let ready = s .pre .0 in
     let out = s .pre .1 in
-    let p = a .predict .ensures .1 .1 (e .enum-told .given .1) .1 ∙ predicted-is d ready in (
-      coupled d ready _ _ (ready .responses) (out .coefficients),
+    let n = a .predict .kept .1 .1 .1 .1 .1 .1 .1 .1 .1 .1 .1 .1 .1 .1 .0 ∙ out .coefficients in
+    let p = a .predict .ensures .1 .1 .0 (e .enum-told .given .1) .1 ∙ predicted-is d ready in (
+      coupled d ready _ _ (ready .responses) n,
       (
-        bounded d ready _ (out .coefficients),
-        (correctable-by d ready _ (now (s .args .coefficients)) p (out .coefficients), out .flux ∙ sym (ap (λ (l : List Float). length l) p ∙ predicted-size d ready)),
+        bounded d ready _ n,
+        (a .predict .ensures .1 .1 .1 (e .enum-told .given .1), (correctable-by d ready _ _ p n, out .flux ∙ sym (ap (λ (l : List Float). length l) p ∙ predicted-size d ready))),
       ),
     )
 
@@ -80,8 +81,9 @@ measure-requires c κs =
     let d = givenAt s in
     let ready = s .pre .0 in
     let out = s .pre .1 in
-    let p = a .predict .ensures .1 .1 (e .enum-told .given .1) .1 ∙ predicted-is d ready in
-    let f = b .correct .ensures .1 (t .enum-told2 .given .1) .1 ∙ fluxes-is d ready _ _ p (out .coefficients) in
+    let n = a .predict .kept .1 .1 .1 .1 .1 .1 .1 .1 .1 .1 .1 .1 .1 .1 .0 ∙ out .coefficients in
+    let p = a .predict .ensures .1 .1 .0 (e .enum-told .given .1) .1 ∙ predicted-is d ready in
+    let f = b .correct .ensures .1 (t .enum-told2 .given .1) .1 ∙ fluxes-is d ready _ _ p n in
     (flows-by d ready _ _ f (out .outflow), (omega (arith, ready .good .sized .places, out .outflow), omega (arith, out .outflow, ready .good .small .cells), out .metrics))
 
 enum-known-b : tie.Need-enum-known-b
@@ -131,16 +133,17 @@ returns c =
     let d = givenAt s in
     let ready = s .pre .0 in
     let out = s .pre .1 in
+    let n = a .predict .kept .1 .1 .1 .1 .1 .1 .1 .1 .1 .1 .1 .1 .1 .1 .0 ∙ out .coefficients in
     let x = a .predict .ensures in
     let xa = e .enum-told .given .1 in
-    let p = x .1 .1 xa .1 ∙ predicted-is d ready in
+    let p = x .1 .1 .0 xa .1 ∙ predicted-is d ready in
     let y = b .correct .ensures .1 (t .enum-told2 .given .1) in
-    let f = y .1 ∙ fluxes-is d ready _ _ p (out .coefficients) in
+    let f = y .1 ∙ fluxes-is d ready _ _ p n in
     let o = outflows-is d ready _ _ f (out .outflow) in
     let z = m .measure .ensures in (
-      ends-last d ready _ _ _ _ (prediction-is d ready _ (x .0)) xa (correction-is d ready _ _ _ p (out .coefficients) (b .correct .ensures .0)) (t .enum-told2 .given .1) o (z .0),
+      ends-last d ready _ _ _ _ (prediction-is d ready _ (x .0)) xa (correction-is d ready _ _ _ p n (b .correct .ensures .0)) (t .enum-told2 .given .1) o (z .0),
       λ ok.
-          same-handed _ _ (x .1 .0 xa .0) (x .1 .0 xa .1) (x .1 .0 xa .2) (x .1 .0 xa .3) (x .1 .1 xa .0 ∙ gradient-is d ready) p (y .0 ∙ coefficients-is d ready _ (out .coefficients)) f (z .1 ok .0 ∙ o)
+          same-handed _ _ (x .1 .0 xa .0) (x .1 .0 xa .1) (x .1 .0 xa .2) (x .1 .0 xa .3) (x .1 .1 .0 xa .0 ∙ gradient-is d ready) p (y .0 ∙ coefficients-is d ready _ n) f (z .1 ok .0 ∙ o)
           (z .1 ok .1 ∙ ap (λ (l : List Float). metricsNumbers (metricsOf (now (s .args .places)) l)) o),
     )
 
@@ -178,10 +181,11 @@ returns-2 c =
     let d = givenAt s in
     let ready = s .pre .0 in
     let out = s .pre .1 in
+    let n = a .predict .kept .1 .1 .1 .1 .1 .1 .1 .1 .1 .1 .1 .1 .1 .1 .0 ∙ out .coefficients in
     let x = a .predict .ensures in
     let xa = e .enum-told .given .1 in
-    let p = x .1 .1 xa .1 ∙ predicted-is d ready in (
-      ends-second d ready _ _ _ _ (prediction-is d ready _ (x .0)) xa (correction-is d ready _ _ _ p (out .coefficients) (b .correct .ensures .0)) (k .b .given .1),
+    let p = x .1 .1 .0 xa .1 ∙ predicted-is d ready in (
+      ends-second d ready _ _ _ _ (prediction-is d ready _ (x .0)) xa (correction-is d ready _ _ _ p n (b .correct .ensures .0)) (k .b .given .1),
       λ ok. absurd (never-accepted _ _ ok),
     )
 
@@ -202,6 +206,9 @@ same-length-23 c = search needs
 
 same-length-24 : tie.Need-same-length-24
 same-length-24 c = search needs
+
+same-length-25 : tie.Need-same-length-25
+same-length-25 c = search needs
 
 returns-3 : tie.Need-returns-3
 returns-3 c =
@@ -249,4 +256,5 @@ run-spec =
     same-length-22
     same-length-23
     same-length-24
+    same-length-25
     returns-3)

@@ -1,7 +1,7 @@
 -- `simple::inner::prediction::between` meets its contract: the coefficient first, and the flux with it.
 use Rattle.simple.proofs.Between.{coefficient-read, flux-read}
 use Rattle.simple.proofs.Sides.{owned, across, in-places}
-use Rattle.simple.specs.Staged.{lateOf, staged}
+use Rattle.simple.specs.Staged.{lateOf, staged, storedAt}
 use Rattle.simple.specs.Prediction.{flow, predictedAt}
 use Rattle.simple.specs.Grid.{Grid, grid}
 use Rattle.simple.specs.Coefficients.{internalAt}
@@ -106,6 +106,9 @@ internal-coefficient-requires c κs = search needs
 enum-known-k : tie.Need-enum-known-k
 enum-known-k c = search needs
 
+store-requires : tie.Need-store-requires
+store-requires c κs = search needs
+
 side-at-requires : tie.Need-side-at-requires
 side-at-requires c κs =
     let e : tie.After-face-at = search in
@@ -127,25 +130,46 @@ late-requires c κs = search needs
 enum-known-k-2 : tie.Need-enum-known-k-2
 enum-known-k-2 c = search needs
 
+same-length : tie.Need-same-length
+same-length c = let w : tie.After-store = search in w .store .kept .0
+
+abbrev knownAt : tie.After-store → tie.After-k
+knownAt c = search
+
+abbrev workedAt : tie.After-k → tie.After-internal-coefficient
+workedAt c = search
+
+abbrev storedIn : tie.After-side-at → tie.After-store
+storedIn c = search
+
+abbrev oneSide : tie.After-side-at2 → tie.After-side-at
+oneSide c = search
+
+abbrev otherSide : tie.After-predicted-flux → tie.After-side-at2
+otherSide c = search
+
 returns : tie.Need-returns
-unfolding staged
+unfolding staged storedAt
 returns c =
-    let i : tie.After-internal-coefficient = search in
-    let s = beginning i in
-    let k : tie.After-k = search in
-    let a : tie.After-side-at = search in
-    let b : tie.After-side-at2 = search in
+    let l : tie.After-late = search in
     let p : tie.After-predicted-flux = search in
+    let b = otherSide p in
+    let a = oneSide b in
+    let w = storedIn a in
+    let k = knownAt w in
+    let i = workedAt k in
+    let s = beginning i in
     let e = sym (coefficient-is i) ∙ k .k .given .1 in
     let v = flux-read (meshAt s) (s .args .f) (two-cells s) (faceOf i .face-at .result) (cellOf i .cell-at .result) (spanOf i .span-to .result) (apart i .distances-at .result) (faceOf i .face-at .ensures) (cellOf i .cell-at .ensures) (spanOf i .span-to .ensures) (apart i .distances-at .ensures) (flow (now (s .args .velocity)) (now (s .args .pressure)) (now (s .args .gradient)) (now (s .args .responses))) (now (s .args .walls)) _ (a .side-at .result) (b .side-at2 .result) (p .predicted-flux .result) e (a .side-at .ensures) (b .side-at2 .ensures) (p .predicted-flux .ensures) in
-    rw e (c .late .ensures ∙ ap lateOf v)
+    (rw e (l .late .ensures ∙ ap lateOf v), rw e (w .store .ensures))
 
 returns-2 : tie.Need-returns-2
-unfolding staged
+unfolding staged storedAt
 returns-2 c =
-    let i : tie.After-internal-coefficient = search in
     let k : tie.After-k2 = search in
-    rw (sym (coefficient-is i) ∙ k .k2 .given .1)
+    let i : tie.After-internal-coefficient = search in
+    let e = sym (coefficient-is i) ∙ k .k2 .given .1 in
+    (rw e, rw e)
 
 pub between-spec : {M : Type 1} → statement M
 between-spec =
@@ -159,10 +183,12 @@ between-spec =
     pair-at-requires
     internal-coefficient-requires
     enum-known-k
+    store-requires
     side-at-requires
     side-at-requires-2
     predicted-flux-requires
     late-requires
     enum-known-k-2
+    same-length
     returns
     returns-2)

@@ -1,11 +1,12 @@
 -- `simple::inner::prediction::predict` meets its contract: below f no coefficient refuses, and a is the first refusal of a flux.
-use Rattle.simple.proofs.Stages.{Both, start, more, stop, finish}
+use Rattle.simple.proofs.Stages.{never-accepted, Both, start, more, stop, finish, Stores, empty, stored, filled}
 use Rattle.simple.specs.Prediction.{flow, predictedAt}
 use Rattle.simple.specs.Grid.{grid}
 use Rattle.simple.specs.Coefficients.{internalAt}
 use Rattle.mesh.specs.declared.Outcome.{Outcome}
 use denote.Ref.{now}
 use lib.ListN.{length}
+use native.Mathlib.Nat.{le-antisymm}
 use native.Mathlib.Omega.{arith}
 use Prim.Native.Nat.{ℕ, _-_}
 use mathlib.Core.Path.{_≡_, refl, sym, _∙_}
@@ -13,10 +14,12 @@ use Rattle.simple.proofs.inner.prediction.predict.Statement.{statement}
 use Rattle.simple.proofs.inner.prediction.predict.Tie as tie
 
 abbrev Inv-loop : tie.InvT-loop
-Inv-loop adjacency geometry places velocity pressure gradient responses walls out₀ a₀ f₀ out a f = Both (internalAt (grid adjacency geometry places) responses) (predictedAt (grid adjacency geometry places) (flow velocity pressure gradient responses) walls) (length walls) out a f
+Inv-loop adjacency geometry places velocity pressure gradient responses walls internal₀ out₀ a₀ f₀ internal out a f =
+    Both (internalAt (grid adjacency geometry places) responses) (predictedAt (grid adjacency geometry places) (flow velocity pressure gradient responses) walls) (length walls) out a f
+    × Stores (internalAt (grid adjacency geometry places) responses) (length walls) (length internal₀) internal f
 
 abbrev μ-loop : tie.MeasureT-loop
-μ-loop adjacency geometry places velocity pressure gradient responses walls out₀ a₀ f₀ out a f = length walls - f
+μ-loop adjacency geometry places velocity pressure gradient responses walls internal₀ out₀ a₀ f₀ internal out a f = length walls - f
 
 -- what each face comes to, in the two sequences
 abbrev firstAt : tie.Start Inv-loop μ-loop → ℕ → Outcome
@@ -38,7 +41,7 @@ stageAt c = search
 loop-holds : tie.Need-loop-holds Inv-loop μ-loop
 loop-holds c =
     let s : tie.Start Inv-loop μ-loop = search in
-    start (firstAt s) (secondAt s) (length (now (s .args .walls))) (now (s .args .out)) (s .pre .1)
+    (start (firstAt s) (secondAt s) (length (now (s .args .walls))) (now (s .args .out)) (s .pre .1), empty (firstAt s) (length (now (s .args .walls))) (length (now (s .args .internal))) (now (s .args .internal)) refl)
 
 stage-at-requires : tie.Need-stage-at-requires Inv-loop μ-loop
 stage-at-requires c κs =
@@ -54,9 +57,13 @@ early-number-requires c κs = tt
 
 same-length : tie.Need-same-length Inv-loop μ-loop
 same-length c =
-    let s : tie.Start Inv-loop μ-loop = search in
-    let l : tie.In-loop Inv-loop μ-loop = search in
-    l .before .loop .inv .size ∙ sym (s .pre .1)
+    let y : tie.After-is-early Inv-loop μ-loop = search in
+    stageAt y .stage-at .kept .1 .1 .1 .1 .1 .1 .1 .1 .1 .0 ∙ turnAt y .before .loop .inv .1 .size
+
+same-length-2 : tie.Need-same-length-2 Inv-loop μ-loop
+same-length-2 c =
+    let y : tie.After-is-early Inv-loop μ-loop = search in
+    turnAt y .before .loop .inv .0 .size ∙ sym (startAt y .pre .1)
 
 returns : tie.Need-returns Inv-loop μ-loop
 returns c =
@@ -66,13 +73,13 @@ returns c =
     let s = startAt y in
     let l = turnAt y in
     let v = stageAt y in
-    let no = stop (firstAt s) (secondAt s) (length (now (s .args .walls))) (l .before .loop .out) (l .before .loop .a) (l .before .loop .f) (v .stage-at .result) (v .stage-at .ensures) (sym (y .is-early .ensures) ∙ t .if1 .taken) (l .before .loop .inv) (l .loop-test .taken) in
-    (rw (k .early-number .ensures) (sym no), λ e. cc)
+    let no = stop (firstAt s) (secondAt s) (length (now (s .args .walls))) (l .before .loop .out) (l .before .loop .a) (l .before .loop .f) (v .stage-at .result) (v .stage-at .ensures .0) (sym (y .is-early .ensures) ∙ t .if1 .taken) (l .before .loop .inv .0) (l .loop-test .taken) in
+    ((rw (k .early-number .ensures) (sym no), λ e. cc), λ _ ok. absurd (never-accepted _ _ ok))
 
 keep-requires : tie.Need-keep-requires Inv-loop μ-loop
 keep-requires c κs =
     let l : tie.In-loop Inv-loop μ-loop = search in
-    omega (arith, l .loop-test .taken, l .before .loop .inv .size)
+    omega (arith, l .loop-test .taken, l .before .loop .inv .0 .size)
 
 add-f : tie.Need-add-f Inv-loop μ-loop
 add-f c =
@@ -92,19 +99,26 @@ loop-again c =
     let s = startAt y in
     let l = turnAt y in
     let v = stageAt y in
-    rw (k .keep .ensures .0, k .keep .ensures .1)
-    (more (firstAt s) (secondAt s) (length (now (s .args .walls))) (l .before .loop .out) (l .before .loop .a) (l .before .loop .f) (v .stage-at .result) (v .stage-at .ensures) (sym (y .is-early .ensures) ∙ d .if1 .left) (l .before .loop .inv) (l .loop-test .taken))
+    let nay = sym (y .is-early .ensures) ∙ d .if1 .left in (
+      rw (k .keep .ensures .0, k .keep .ensures .1)
+          (more (firstAt s) (secondAt s) (length (now (s .args .walls))) (l .before .loop .out) (l .before .loop .a) (l .before .loop .f) (v .stage-at .result) (v .stage-at .ensures .0) nay (l .before .loop .inv .0) (l .loop-test .taken)),
+      stored (firstAt s) (length (now (s .args .walls))) (length (now (s .args .internal))) (secondAt s) (l .before .loop .internal) _ (l .before .loop .f) (v .stage-at .result) (v .stage-at .ensures .0) nay (v .stage-at .ensures .1) (l .before .loop .inv .1) (l .loop-test .taken),
+    )
 
-same-length-2 : tie.Need-same-length-2 Inv-loop μ-loop
-same-length-2 c =
+same-length-3 : tie.Need-same-length-3 Inv-loop μ-loop
+same-length-3 c = c .before .loop .inv .1 .size
+
+same-length-4 : tie.Need-same-length-4 Inv-loop μ-loop
+same-length-4 c =
     let s : tie.Start Inv-loop μ-loop = search in
-    c .before .loop .inv .size ∙ sym (s .pre .1)
+    c .before .loop .inv .0 .size ∙ sym (s .pre .1)
 
 returns-2 : tie.Need-returns-2 Inv-loop μ-loop
 returns-2 c =
     let s : tie.Start Inv-loop μ-loop = search in
-    let w = finish (firstAt s) (secondAt s) (length (now (s .args .walls))) (c .before .loop .out) (c .before .loop .a) (c .before .loop .f) (c .before .loop .inv) (c .loop-test .left) in
-    (sym (w .0), w .1)
+    let w = finish (firstAt s) (secondAt s) (length (now (s .args .walls))) (c .before .loop .out) (c .before .loop .a) (c .before .loop .f) (c .before .loop .inv .0) (c .loop-test .left) in
+    let e : c .before .loop .f ≡ length (now (s .args .walls)) = le-antisymm (c .before .loop .inv .0 .within) (c .loop-test .left) in
+    ((sym (w .0), w .1), λ room ok. filled (firstAt s) (length (now (s .args .walls))) (length (now (s .args .internal))) (c .before .loop .internal) (c .before .loop .f) e (c .before .loop .inv .1) room)
 
 pub predict-spec : {M : Type 1} → statement M
 predict-spec =
@@ -117,10 +131,12 @@ predict-spec =
     is-early-requires
     early-number-requires
     same-length
+    same-length-2
     returns
     keep-requires
     add-f
     loop-less
     loop-again
-    same-length-2
+    same-length-3
+    same-length-4
     returns-2)

@@ -39,6 +39,9 @@ same-length c = search needs
 same-length-2 : tie.Need-same-length-2
 same-length-2 c = search needs
 
+same-length-3 : tie.Need-same-length-3
+same-length-3 c = search needs
+
 returns : tie.Need-returns
 returns c =
     let s : tie.Start = search in
@@ -54,8 +57,11 @@ returns c =
             (t .settle .ensures .1
             ∙ ap (λ (k : ℕ). handedOut r k new) (g .least-squares-gradient .kept .1 .1 .1 .1 .1 .1 .0)
             ∙ ap (λ (l : List Float). handedOut r (length (now (s .args .gradient))) l) is),
-        rw (t .settle .ensures .0)
-            (p .predicted-flux .ensures .1 ∙ ap (λ (l : List Float). handedOut r (length (now (s .args .walls))) (predictedFluxes (meshAt s) (flowAt s l) (now (s .args .walls)))) is),
+        (
+          rw (t .settle .ensures .0)
+              (p .predicted-flux .ensures .1 .0 ∙ ap (λ (l : List Float). handedOut r (length (now (s .args .walls))) (predictedFluxes (meshAt s) (flowAt s l) (now (s .args .walls)))) is),
+          λ room ok. p .predicted-flux .ensures .1 .1 room (sym (t .settle .ensures .0) ∙ ok),
+        ),
       ),
     )
 
@@ -68,4 +74,5 @@ rhie-chow-predicted-flux-spec =
     settle-requires
     same-length
     same-length-2
+    same-length-3
     returns)

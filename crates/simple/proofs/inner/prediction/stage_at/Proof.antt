@@ -1,5 +1,5 @@
 -- `simple::inner::prediction::stage_at` meets its contract: a face with one cell keeps its wall flux.
-use Rattle.simple.specs.Staged.{lateOf, staged}
+use Rattle.simple.specs.Staged.{lateOf, staged, storedAt}
 use Rattle.simple.specs.Prediction.{predictedAt}
 use Rattle.simple.specs.Coefficients.{internalAt}
 use borrow.Author.Tests.{eq-eqb}
@@ -11,21 +11,32 @@ use Rattle.simple.proofs.inner.prediction.stage_at.Tie as tie
 second-of-requires : tie.Need-second-of-requires
 second-of-requires c κs = search needs
 
-mul-t12 : tie.Need-mul-t12
-mul-t12 c = search needs
+store-requires : tie.Need-store-requires
+store-requires c κs = search needs
 
-shared-slice-read-t14 : tie.Need-shared-slice-read-t14
-shared-slice-read-t14 c = search needs
+mul-t16 : tie.Need-mul-t16
+mul-t16 c = search needs
+
+shared-slice-read-t18 : tie.Need-shared-slice-read-t18
+shared-slice-read-t18 c = search needs
+
+same-length : tie.Need-same-length
+same-length c = search needs
 
 returns : tie.Need-returns
-unfolding internalAt predictedAt staged lateOf
+unfolding internalAt predictedAt staged lateOf storedAt
 returns c =
     let p : tie.After-second-of = search in
     let t : tie.Then1 = search in
-    rw (eq-eqb _ _ (sym (p .second-of .ensures) ∙ t .if1 .taken))
+    let w : tie.After-store = search in
+    let e = eq-eqb _ _ (sym (p .second-of .ensures) ∙ t .if1 .taken) in
+    (rw e, rw e (w .store .ensures))
 
 between-requires : tie.Need-between-requires
 between-requires c κs = search needs
+
+same-length-2 : tie.Need-same-length-2
+same-length-2 c = search needs
 
 returns-2 : tie.Need-returns-2
 returns-2 c = search needs
@@ -33,4 +44,13 @@ returns-2 c = search needs
 pub stage-at-spec : {M : Type 1} → statement M
 stage-at-spec =
     tie.close
-    (tie.spec second-of-requires mul-t12 shared-slice-read-t14 returns between-requires returns-2)
+    (tie.spec
+    second-of-requires
+    store-requires
+    mul-t16
+    shared-slice-read-t18
+    same-length
+    returns
+    between-requires
+    same-length-2
+    returns-2)

@@ -280,10 +280,10 @@ pub fn or_else(a: Answer, b: Answer) -> Answer
 pub fn clear(out: &mut [f64])
     ensures { λ _. ⌜ now (out .exit) ≡ replicate (length (now (out .entry))) zero64 ⌝ }
 {
-    let mut i = 0;
-    while i < out.len() {
-        out[i] = 0.0;
-        i += 1;
+    let mut at = 0;
+    while at < out.len() {
+        out[at] = 0.0;
+        at += 1;
     }
 }
 

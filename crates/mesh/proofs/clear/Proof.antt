@@ -12,10 +12,10 @@ use Rattle.mesh.proofs.clear.Statement.{statement}
 use Rattle.mesh.proofs.clear.Tie as tie
 
 abbrev Inv-loop : tie.InvT-loop
-Inv-loop out₀ i₀ out i = Filled zero64 nan (length out₀) out i
+Inv-loop out₀ at₀ out at = Filled zero64 nan (length out₀) out at
 
 abbrev μ-loop : tie.MeasureT-loop
-μ-loop out₀ i₀ out i = length out - i
+μ-loop out₀ at₀ out at = length out - at
 
 loop-holds : tie.Need-loop-holds Inv-loop μ-loop
 loop-holds c = start zero64 nan (length (now (c .args .out))) (now (c .args .out)) refl
@@ -26,20 +26,20 @@ mul-out c = scaled-fits _ (length (now (c .before .before .args .out))) 8 (omega
 slice-write-out : tie.Need-slice-write-out Inv-loop μ-loop
 slice-write-out c = omega arith
 
-add-i : tie.Need-add-i Inv-loop μ-loop
-add-i c = omega arith
+add-at : tie.Need-add-at Inv-loop μ-loop
+add-at c = omega arith
 
 loop-less : tie.Need-loop-less Inv-loop μ-loop
 loop-less c = simp length-set (omega arith)
 
 loop-again : tie.Need-loop-again Inv-loop μ-loop
-loop-again c = more zero64 nan (length (now (c .before .before .args .out))) (c .before .loop .out) (c .before .loop .i) (c .before .loop .inv) (c .loop-test .taken)
+loop-again c = more zero64 nan (length (now (c .before .before .args .out))) (c .before .loop .out) (c .before .loop .at) (c .before .loop .inv) (c .loop-test .taken)
 
 same-length : tie.Need-same-length Inv-loop μ-loop
 same-length c = c .before .loop .inv .size
 
 returns : tie.Need-returns Inv-loop μ-loop
-returns c = finish zero64 nan (length (now (c .before .before .args .out))) (c .before .loop .out) (c .before .loop .i) (c .before .loop .inv) (c .loop-test .left)
+returns c = finish zero64 nan (length (now (c .before .before .args .out))) (c .before .loop .out) (c .before .loop .at) (c .before .loop .inv) (c .loop-test .left)
 
 pub clear-spec : {M : Type 1} → statement M
 clear-spec =
@@ -50,7 +50,7 @@ clear-spec =
     loop-holds
     mul-out
     slice-write-out
-    add-i
+    add-at
     loop-less
     loop-again
     same-length

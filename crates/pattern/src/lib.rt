@@ -1,12 +1,13 @@
 // Bit patterns of f64s, NaNs' among them, of which `f64::from_bits` and `f64::to_bits` take none; and
-// patterns as text.
+// patterns as text, read and written.
 ghost use mathlib.Core.Path.{_≡_};
 ghost use mathlib.Core.Bool.{true};
 ghost use mathlib.Core.Logic.{_↔_};
-ghost use lib.Ieee.{binary64, ofBits, nanBits};
+ghost use lib.Ieee.{binary64, ofBits, toBits, nanBits};
 ghost use Rattle.pattern.specs.Text.{Digit};
 
 pub mod inner;
+pub mod print;
 
 // The number that 16 bytes spell in hex digits, if they do.
 pub enum Hex {
@@ -39,6 +40,16 @@ pub fn is_of(bits: u64, x: f64) -> bool
         return is_nan(bits);
     }
     f64::to_bits(x) == bits
+}
+
+// x's pattern; a NaN's is 7ff8000000000000, whatever its payload.
+pub fn bits(x: f64) -> u64
+    ensures { λ r. ⌜ r ≡ toBits binary64 x ⌝ }
+{
+    if x != x {
+        return 0x7ff8_0000_0000_0000;
+    }
+    f64::to_bits(x)
 }
 
 // The value of the hex digit b, or 16 where b is none.

@@ -9,6 +9,7 @@ use libc::STDOUT_FILENO;
 use mesh::Answer;
 
 mod chains;
+mod entries;
 mod faces;
 mod large;
 mod lent;
@@ -68,4 +69,5 @@ fn main() {
     chains::all();
     large::chains();
     links::all();
+    entries::all();
 }

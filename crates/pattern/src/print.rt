@@ -19,6 +19,34 @@ pub fn float(x: f64) {
     word(crate::bits(x));
 }
 
+fn next_word(n: u64) {
+    text(b" ");
+    word(n);
+}
+
+fn next_float(x: f64) {
+    text(b" ");
+    float(x);
+}
+
+// Each number's 16 hex digits after a space.
+pub fn words(numbers: &[usize]) {
+    let mut i = 0;
+    while i < numbers.len() {
+        next_word(numbers[i] as u64);
+        i += 1;
+    }
+}
+
+// The 16 hex digits of each number's pattern after a space.
+pub fn floats(numbers: &[f64]) {
+    let mut i = 0;
+    while i < numbers.len() {
+        next_float(numbers[i]);
+        i += 1;
+    }
+}
+
 pub fn refusal(number: u64, index: usize) {
     text(b"refused ");
     decimal(number);

@@ -1,0 +1,41 @@
+// `numerics::least_squares_gradient`: 1, 2, 3 and 5.
+use crate::entries::case::Case;
+use crate::entries::change;
+use crate::entries::slice::EQUATIONS;
+use crate::entries::slice::INVERSES;
+use crate::entries::slice::PRESSURE;
+use crate::entries::slice::STARTS;
+use crate::entries::slice::WEIGHTS;
+use crate::entries::slice::float;
+use crate::entries::slice::whole;
+use mesh::Answer;
+
+const KIND: usize = 18;
+
+pub fn call(case: Case, out: &mut [f64]) -> Answer {
+    let n = case.lengths;
+    let m = case.numbers;
+    let w = case.whole;
+    let x = case.floats;
+    numerics::least_squares_gradient(
+        case.counts,
+        m[STARTS],
+        case.records,
+        whole(&w, &n, STARTS),
+        whole(&w, &n, EQUATIONS),
+        float(&x, &n, WEIGHTS),
+        float(&x, &n, INVERSES),
+        m[PRESSURE],
+        float(&x, &n, PRESSURE),
+        out,
+    )
+}
+
+pub fn cases() {
+    change::nothing(KIND, b"as it stands");
+    change::dimension(KIND, b"dimension 4", 4);
+    change::length(KIND, b"pressure one short", PRESSURE, 1);
+    change::number(KIND, b"stencil of another mesh", STARTS, 8);
+    change::number(KIND, b"pressure of another mesh", PRESSURE, 8);
+    change::whole(KIND, b"first equation of cell 1 missing", STARTS, 1, 8);
+}

@@ -1,0 +1,33 @@
+// `numerics::integrated_divergence`: 1 to 4.
+use crate::entries::case::Case;
+use crate::entries::change;
+use crate::entries::slice::ADJACENCY;
+use crate::entries::slice::FLUX;
+use crate::entries::slice::OUTFLOW;
+use crate::entries::slice::float;
+use crate::entries::slice::whole;
+use mesh::Answer;
+
+const KIND: usize = 24;
+
+pub fn call(case: Case, out: &mut [f64]) -> Answer {
+    let n = case.lengths;
+    let m = case.numbers;
+    let w = case.whole;
+    let x = case.floats;
+    numerics::integrated_divergence(
+        case.counts,
+        whole(&w, &n, ADJACENCY),
+        m[FLUX],
+        float(&x, &n, FLUX),
+        out,
+    )
+}
+
+pub fn cases() {
+    change::nothing(KIND, b"as it stands");
+    change::dimension(KIND, b"dimension 4", 4);
+    change::length(KIND, b"output one short", OUTFLOW, 1);
+    change::number(KIND, b"flux of another mesh", FLUX, 8);
+    change::whole(KIND, b"neighbour of face 0 its owner", ADJACENCY, 1, 1);
+}

@@ -171,21 +171,26 @@ impl Lent {
         export_faces(mesh, &mut slices);
         export_cells(mesh, &mut slices);
         export_conditions(mesh, conditions, &mut slices);
-        let number = mesh.id().get();
-        Self {
-            counts: Counts {
-                mesh: number,
-                dimension: match mesh.dimension() {
-                    MeshDimension::TwoD => 2,
-                    MeshDimension::ThreeD => 3,
-                },
-                cells: mesh.cell_count(),
-                faces: mesh.face_count(),
-                face_records: slices.facing.len() / 2,
-                neighbour_records: slices.bordering.len() / 2,
+        let counts = Counts {
+            mesh: mesh.id().get(),
+            dimension: match mesh.dimension() {
+                MeshDimension::TwoD => 2,
+                MeshDimension::ThreeD => 3,
             },
-            records: 0,
-            numbers: [number; Part::ALL.len()],
+            cells: mesh.cell_count(),
+            faces: mesh.face_count(),
+            face_records: slices.facing.len() / 2,
+            neighbour_records: slices.bordering.len() / 2,
+        };
+        Self::of(counts, 0, slices)
+    }
+
+    /// Slices as they are, all with the mesh's number.
+    pub fn of(counts: Counts, records: usize, slices: Slices) -> Self {
+        Self {
+            counts,
+            records,
+            numbers: [counts.mesh; Part::ALL.len()],
             slices,
         }
     }

@@ -7,6 +7,7 @@ mod checks;
 mod compare;
 mod coverage;
 mod damage;
+mod edges;
 mod entry;
 mod exact;
 mod lent;
@@ -24,6 +25,7 @@ usage: oracle COMMAND
   manifest                         what is built from the sources of FLURSYS: file, lines, SHA-256
   compare [--seed S] [--cases N]   the port against the Rust, on N meshes made at random and some by hand
   list                             the fixed list, for the repository's own tests
+  edges                            the lines of the program `edges` on calls of entries
   bench                            times of both sides
   self-test [--seed S] [--cases N] the comparison tried on the Rust itself and on spoiled copies of it
   coverage-cases [--seed S] [--cases N] [--built]
@@ -53,6 +55,7 @@ fn main() -> ExitCode {
             }
         }
         "list" => print!("{}", list::text()),
+        "edges" => print!("{}", edges::text()),
         "bench" => bench::run(&port::linked()),
         "coverage-cases" => coverage::run(&settings),
         _ => return refused(),

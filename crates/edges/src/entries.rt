@@ -59,7 +59,7 @@ fn run(kind: usize, name: &[u8], case: Case) {
         26 => whole_step::show(case),
         _ => one::show(kind, case),
     }
-    output::end_line();
+    print::text(b"\n");
 }
 
 pub(crate) fn all() {

@@ -1,11 +1,11 @@
-// Exercises the refusals 1 to 6 of `mesh::check` at their limits, and writes a line for each case:
-// its name, a colon, and the answer. The expected output, the crate's file `stdout`, was written by
-// hand from document 01 and not taken from a run. A small case starts from an accepted mesh, and
-// changes only what its name says.
+// Writes a line for each case: its name, a colon, and the answer. The cases of `mesh::check` exercise
+// the refusals 1 to 6 at their limits; their lines in the crate's file `stdout`, which come first, were
+// written by hand from document 01. Those of the entries have their outputs after the answer; their
+// lines were made by `oracle edges` from the Rust. No line was taken from a run. A small case starts
+// from an accepted mesh, and changes only what its name says.
 ghost use mathlib.Core.Path.{_≡_};
 ghost use lib.ListN.{take};
 use lent::Lent;
-use libc::STDOUT_FILENO;
 use mesh::Answer;
 
 mod chains;
@@ -35,25 +35,26 @@ fn float_part(s: &[f64], n: usize) -> &[f64]
     s
 }
 
-fn print_answer(answer: Answer) {
+// Writes what follows a case's name. Answers whether the call was accepted.
+fn print_answer(answer: Answer) -> bool {
     match answer {
         Answer::Accepted => {
-            io::write_all(STDOUT_FILENO, b": accepted\n");
+            pattern::print::text(b": accepted");
+            true
         }
         Answer::Refused(number, index) => {
-            io::write_all(STDOUT_FILENO, b": refused ");
-            io::print_decimal(STDOUT_FILENO, number);
-            io::write_all(STDOUT_FILENO, b" at ");
-            io::print_decimal(STDOUT_FILENO, index as u64);
-            io::write_all(STDOUT_FILENO, b"\n");
+            pattern::print::text(b": ");
+            pattern::print::refusal(number, index);
+            false
         }
     }
 }
 
 // Writes a case's line.
 fn print(name: &[u8], answer: Answer) {
-    io::write_all(STDOUT_FILENO, name);
+    pattern::print::text(name);
     print_answer(answer);
+    pattern::print::text(b"\n");
 }
 
 fn show(name: &[u8], lent: Lent) {

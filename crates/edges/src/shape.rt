@@ -3,7 +3,6 @@ ghost use Prim.Native.Nat.{_≤_, _<_};
 use crate::lent;
 use crate::lent::pair;
 use crate::show;
-use libc::STDOUT_FILENO;
 
 pub(crate) fn dimensions() {
     let base = pair();
@@ -25,7 +24,7 @@ pub(crate) fn dimensions() {
 fn length_case(name: &[u8], change: &[u8], slice: usize, n: usize)
     requires { ⌜ slice < 8 ⌝ }
 {
-    io::write_all(STDOUT_FILENO, name);
+    pattern::print::text(name);
     show(change, pair().with_length(slice, n));
 }
 

@@ -50,6 +50,7 @@ pub fn cases() {
         28,
         BESIDE,
     );
+    change::whole(KIND, b"code 1 at linked face 1", CODES, 2, 1);
     change::dimension(KIND, b"dimension 4", 4);
     change::length(KIND, b"values one short", VALUES, 27);
     change::number(KIND, b"conditions of another mesh", CODES, 8);

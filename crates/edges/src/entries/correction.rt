@@ -50,6 +50,7 @@ fn within_arithmetic() {
 
 pub fn cases() {
     change::nothing(KIND, b"as it stands");
+    change::whole(KIND, b"code 1 at linked face 1", CODES, 2, 1);
     change::dimension(KIND, b"dimension 4", 4);
     change::length(KIND, b"output one long", FLUX, 8);
     change::number(KIND, b"conditions of another mesh", CODES, 8);

@@ -11,6 +11,7 @@ use crate::entries::output;
 use crate::entries::output::ROOM;
 use crate::entries::slice;
 use crate::entries::velocity;
+use crate::print_answer;
 use mesh::Answer;
 
 // The slice that a kind of call hands out.
@@ -41,7 +42,7 @@ fn call(kind: usize, case: Case, out: &mut [f64]) -> Answer {
 
 // Makes the call, and writes its answer and its output.
 fn show_call(kind: usize, case: Case, out: &mut [f64]) {
-    if output::print_answer(call(kind, case, out)) {
+    if print_answer(call(kind, case, out)) {
         output::print_floats(out);
     } else {
         output::print_left(output::held(out));

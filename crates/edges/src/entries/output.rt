@@ -1,5 +1,4 @@
 // What outputs hold before a call, and the part of a case's line that tells what they hold after it.
-use mesh::Answer;
 use pattern::print;
 
 // As a float it is no NaN, and no result of a case.
@@ -10,21 +9,6 @@ pub const ROOM: usize = 32;
 
 pub fn fill() -> f64 {
     pattern::value(FILL as u64)
-}
-
-// Writes a case's line up to its outputs. Answers whether the call was accepted.
-pub fn print_answer(answer: Answer) -> bool {
-    match answer {
-        Answer::Accepted => {
-            print::text(b": accepted");
-            true
-        }
-        Answer::Refused(number, index) => {
-            print::text(b": ");
-            print::refusal(number, index);
-            false
-        }
-    }
 }
 
 pub fn print_whole(out: &[usize]) {
@@ -44,10 +28,6 @@ pub fn print_left(left: usize) {
         2 => print::text(b", cleared"),
         _ => print::text(b", neither untouched nor cleared"),
     }
-}
-
-pub fn end_line() {
-    print::text(b"\n");
 }
 
 // Whether every number of an output is n, or has the pattern n.

@@ -19,6 +19,7 @@ use crate::entries::slice::float;
 use crate::entries::slice::float_part;
 use crate::entries::slice::part;
 use crate::entries::slice::whole;
+use crate::print_answer;
 use mesh::Answer;
 use mesh::Counts;
 
@@ -49,7 +50,7 @@ fn tell(
     j: usize,
     inverses: &[f64; 18],
 ) {
-    if output::print_answer(answer) {
+    if print_answer(answer) {
         print(
             starts,
             part(equations, 0, i),

@@ -5,6 +5,7 @@ use crate::entries::output;
 use crate::entries::output::ROOM;
 use crate::entries::prediction;
 use crate::entries::slice;
+use crate::print_answer;
 use mesh::Answer;
 
 fn call(kind: usize, case: Case, first: &mut [f64], second: &mut [f64]) -> Answer {
@@ -16,7 +17,7 @@ fn call(kind: usize, case: Case, first: &mut [f64], second: &mut [f64]) -> Answe
 
 // Makes the call, and writes its answer and its outputs.
 fn show_call(kind: usize, case: Case, first: &mut [f64], second: &mut [f64]) {
-    if output::print_answer(call(kind, case, first, second)) {
+    if print_answer(call(kind, case, first, second)) {
         output::print_floats(first);
         output::print_floats(second);
     } else {

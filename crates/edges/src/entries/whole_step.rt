@@ -26,6 +26,7 @@ use crate::entries::slice::float_part;
 use crate::entries::slice::part;
 use crate::entries::slice::whole;
 use crate::entries::stencil;
+use crate::print_answer;
 use mesh::Answer;
 use mesh::Counts;
 
@@ -82,7 +83,7 @@ fn tell(
 ) {
     let e = part(equations, 0, i);
     let w = float_part(weights, 0, j);
-    if output::print_answer(answer) {
+    if print_answer(answer) {
         stencil::print(starts, e, w, inverses);
         print_fields(gradient, predicted, coefficients, flux, outflow, metrics);
     } else {

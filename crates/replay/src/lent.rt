@@ -4,16 +4,14 @@ use crate::words::after;
 use crate::words::skip;
 use crate::words::word;
 
-// A field, marked * in the layout: the number of its mesh, and the places of its slice and of what
-// follows it.
+// A field, marked * in the layout: the number of its mesh, and the place of its slice.
 pub struct Field {
     pub number: u64,
     pub values: usize,
-    pub end: usize,
 }
 
 // A stencil: how many records it has, the number of its mesh, and the places of its slices and of
-// what follows it.
+// the fields that follow it.
 pub struct Stencil {
     pub records: usize,
     pub number: u64,
@@ -21,42 +19,38 @@ pub struct Stencil {
     pub equations: usize,
     pub weights: usize,
     pub inverses: usize,
-    pub end: usize,
+    pub fields: usize,
 }
 
-// What rhie_chow_predicted_flux is lent.
-pub struct Flow {
-    pub stencil: Stencil,
-    pub velocity: Field,
-    pub pressure: Field,
-    pub responses: Field,
-    pub walls: Field,
+// The place after k fields that stand from a place on.
+fn after_fields(words: &[usize], from: usize, k: usize) -> usize {
+    let mut at = from;
+    let mut i = 0;
+    while i < k {
+        at = after(words, skip(words, at, 1));
+        i += 1;
+    }
+    at
 }
 
-// What correct_cell_velocity_from_gradient is lent.
-pub struct Correction {
-    pub velocity: Field,
-    pub responses: Field,
-    pub gradient: Field,
-}
-
-fn field_at(words: &[usize], at: usize) -> Field {
-    let values = skip(words, at, 1);
+// The field that follows k others, which stand from a place on.
+pub fn field_at(words: &[usize], from: usize, k: usize) -> Field {
+    let at = after_fields(words, from, k);
     Field {
         number: word(words, at, 0) as u64,
-        values,
-        end: after(words, values),
+        values: skip(words, at, 1),
     }
 }
 
-// The first field of the call at a place; of a stencil, its starts.
-pub fn first_field(words: &[usize], at: usize) -> Field {
-    field_at(words, skip(words, at, 1))
+// The field of the call at a place that follows k others; nothing stands before them.
+pub fn field_of(words: &[usize], at: usize, k: usize) -> Field {
+    field_at(words, skip(words, at, 1), k)
 }
 
-pub fn stencil_at(words: &[usize], at: usize) -> Stencil {
-    let starts = first_field(words, at);
-    let equations = starts.end;
+// The stencil of the call at a place. Its starts stand as a field does.
+pub fn stencil_of(words: &[usize], at: usize) -> Stencil {
+    let starts = field_of(words, at, 0);
+    let equations = after(words, starts.values);
     let weights = after(words, equations);
     let inverses = after(words, weights);
     Stencil {
@@ -66,49 +60,20 @@ pub fn stencil_at(words: &[usize], at: usize) -> Stencil {
         equations,
         weights,
         inverses,
-        end: after(words, inverses),
-    }
-}
-
-// The field that follows a stencil.
-pub fn field_after(words: &[usize], s: Stencil) -> Field {
-    field_at(words, s.end)
-}
-
-pub fn flow_at(words: &[usize], at: usize) -> Flow {
-    let stencil = stencil_at(words, at);
-    let velocity = field_after(words, stencil);
-    let pressure = field_at(words, velocity.end);
-    let responses = field_at(words, pressure.end);
-    let walls = field_at(words, responses.end);
-    Flow {
-        stencil,
-        velocity,
-        pressure,
-        responses,
-        walls,
-    }
-}
-
-pub fn correction_at(words: &[usize], at: usize) -> Correction {
-    let velocity = first_field(words, at);
-    let responses = field_at(words, velocity.end);
-    let gradient = field_at(words, responses.end);
-    Correction {
-        velocity,
-        responses,
-        gradient,
+        fields: after(words, inverses),
     }
 }
 
 // The place after what the call at a place is lent.
 pub fn after_lent(words: &[usize], kind: usize, at: usize) -> usize {
+    let first = skip(words, at, 1);
     match kind {
-        16 => after(words, skip(words, at, 1)),
-        17 => skip(words, at, 1),
-        18 => field_after(words, stencil_at(words, at)).end,
-        21 => flow_at(words, at).walls.end,
-        23 => correction_at(words, at).gradient.end,
-        _ => first_field(words, at).end,
+        16 => after(words, first),
+        17 => first,
+        18 => after_fields(words, stencil_of(words, at).fields, 1),
+        21 => after_fields(words, stencil_of(words, at).fields, 4),
+        22 | 23 => after_fields(words, first, 3),
+        26 => after_fields(words, first, 5),
+        _ => after_fields(words, first, 1),
     }
 }

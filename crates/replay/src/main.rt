@@ -1,6 +1,6 @@
 // Makes the calls of a list again, which stands on standard input, and writes how many agree with
-// it and how many differ. The list is what `oracle list` makes; `oracle/README.md` gives its layout. Of the
-// calls those of the entries of `numerics` and of `simple` are made, and the roots are taken by
+// it and how many differ. The list is what `oracle list` makes; `oracle/README.md` gives its layout. The
+// calls are those of the entries of `numerics`, `simple` and `step`, and the roots are taken by
 // `binary64::sqrt`.
 use crate::tally::PLACES;
 use libc::STDIN_FILENO;

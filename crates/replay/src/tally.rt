@@ -5,8 +5,7 @@ use crate::print_broken;
 use libc::STDOUT_FILENO;
 
 // How many agree, at twice the kind, and how many differ, in the next place, of the roots and of
-// each kind of call; the kinds are those of the list's blocks. At OTHERS, how many calls are not
-// made again.
+// each kind of call; the kinds are those of the list's blocks.
 pub type Tally = [usize; PLACES];
 
 const KINDS: usize = 27;
@@ -15,20 +14,18 @@ pub const PLACES: usize = 2 * KINDS;
 
 pub const ROOTS: usize = 3;
 
-const OTHERS: usize = 0;
-
 fn print_different(line: u64) {
     io::write_all(STDOUT_FILENO, b"line ");
     io::print_decimal(STDOUT_FILENO, line);
     io::write_all(STDOUT_FILENO, b": differs\n");
 }
 
-// Where those that agree of a kind are counted.
+// Where those that agree of a kind are counted; PLACES for no kind.
 fn place(kind: usize) -> usize {
     if kind < KINDS {
         return 2 * kind;
     }
-    OTHERS
+    PLACES
 }
 
 fn counted(tally: &Tally, i: usize) -> usize {
@@ -56,22 +53,17 @@ pub fn print_tally(tally: &Tally) {
     print_kind(tally, 19, b"pressure_face_coefficients");
     print_kind(tally, 20, b"pressure_face_coefficients_with_boundary");
     print_kind(tally, 21, b"rhie_chow_predicted_flux");
+    print_kind(tally, 22, b"correct_face_flux_with_boundary");
     print_kind(tally, 23, b"correct_cell_velocity_from_gradient");
     print_kind(tally, 24, b"integrated_divergence");
     print_kind(tally, 25, b"continuity_metrics");
-    io::write_all(STDOUT_FILENO, b"calls not replayed: ");
-    io::print_decimal(STDOUT_FILENO, tally[OTHERS] as u64);
-    io::write_all(STDOUT_FILENO, b"\n");
+    print_kind(tally, 26, b"step");
 }
 
 fn count(tally: &mut Tally, i: usize) {
     if i < PLACES {
         tally[i] = more(tally[i]);
     }
-}
-
-pub fn count_other(tally: &mut Tally) {
-    count(tally, OTHERS);
 }
 
 // Tallies an outcome, and writes the line where a different or a broken one starts. Answers

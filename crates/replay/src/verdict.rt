@@ -1,10 +1,12 @@
 // What the list says of a call, and whether the call's answer and outputs agree with it.
-ghost use Prim.Native.Nat.{ℕ, _<_};
+ghost use Prim.Native.Nat.{ℕ, _<_, _≤_};
 ghost use mathlib.Core.Path.{_≡_};
 ghost use mathlib.Core.Bool.{true};
-ghost use lib.ListN.{length, getD};
+ghost use lib.ListN.{getD};
 ghost use lib.Ieee.{nan, binary64, ofBits};
 use crate::FILL;
+use crate::NOWHERE;
+use crate::ROOM;
 use crate::words::after;
 use crate::words::numbers;
 use crate::words::part;
@@ -12,18 +14,23 @@ use crate::words::skip;
 use crate::words::word;
 use mesh::Answer;
 
-// The answer's number; what the outputs hold, 0 the numbers that follow, 1 what they held before
-// the call, 2 zeros; the places of the right indices and of the first output's numbers.
+// The place of the lengths of the outputs; the answer's number; what the outputs hold, 0 the numbers
+// that follow, 1 what they held before the call, 2 zeros; the places of the right indices and of the
+// first output's numbers.
 pub struct Verdict {
+    lengths: usize,
     answer: u64,
     held: usize,
     indices: usize,
-    pub outputs: usize,
+    outputs: usize,
 }
 
-pub fn verdict_at(words: &[usize], at: usize) -> Verdict {
+// Of a call with so many outputs.
+pub fn verdict_at(words: &[usize], lengths: usize, count: usize) -> Verdict {
+    let at = skip(words, lengths, count);
     let indices = skip(words, at, 2);
     Verdict {
+        lengths,
         answer: word(words, at, 0) as u64,
         held: word(words, at, 1),
         indices,
@@ -50,25 +57,27 @@ fn expected_at(expected: &[usize], rest: usize, i: usize) -> usize
     rest
 }
 
-// Whether an output holds what is expected, number by number.
-fn same_numbers(out: &[usize], expected: &[usize], rest: usize) -> bool
-    ensures { λ r. ⌜ ((r ≡ true) → (i : ℕ) → i < length (now (out .entry)) → getD (now (out .entry)) i 0 ≡ getD (now (expected .entry)) i rest) ⌝ }
+// Whether the first n numbers of an output are what is expected, number by number.
+fn same_numbers(out: &[usize; ROOM], n: usize, expected: &[usize], rest: usize) -> bool
+    requires { ⌜ n ≤ 1024 ⌝ }
+    ensures { λ r. ⌜ ((r ≡ true) → (i : ℕ) → i < n → getD (now (out .entry)) i 0 ≡ getD (now (expected .entry)) i rest) ⌝ }
 {
     let mut i = 0;
-    while i < out.len() && out[i] == expected_at(expected, rest, i) {
+    while i < n && out[i] == expected_at(expected, rest, i) {
         i += 1;
     }
-    i == out.len()
+    i == n
 }
 
-fn same_reals(out: &[f64], expected: &[usize], rest: usize) -> bool
-    ensures { λ r. ⌜ ((r ≡ true) → (i : ℕ) → i < length (now (out .entry)) → getD (now (out .entry)) i nan ≡ ofBits binary64 (getD (now (expected .entry)) i rest)) ⌝ }
+fn same_reals(out: &[f64; ROOM], n: usize, expected: &[usize], rest: usize) -> bool
+    requires { ⌜ n ≤ 1024 ⌝ }
+    ensures { λ r. ⌜ ((r ≡ true) → (i : ℕ) → i < n → getD (now (out .entry)) i nan ≡ ofBits binary64 (getD (now (expected .entry)) i rest)) ⌝ }
 {
     let mut i = 0;
-    while i < out.len() && pattern::is_of(expected_at(expected, rest, i) as u64, out[i]) {
+    while i < n && pattern::is_of(expected_at(expected, rest, i) as u64, out[i]) {
         i += 1;
     }
-    i == out.len()
+    i == n
 }
 
 impl Verdict {
@@ -93,9 +102,34 @@ impl Verdict {
         0
     }
 
-    // The place after the n numbers of an output.
-    pub fn after(self, words: &[usize], at: usize, n: usize) -> usize {
+    // The place after the numbers of an output of n, or NOWHERE where there is no room for it.
+    fn after(self, words: &[usize], at: usize, n: usize) -> usize {
+        if n > ROOM {
+            return NOWHERE;
+        }
         skip(words, at, self.listed(n))
+    }
+
+    // The place of the numbers of the output k, or after them all where k is how many there are.
+    pub fn place(self, words: &[usize], k: usize) -> usize {
+        let mut at = self.outputs;
+        let mut i = 0;
+        while i < k {
+            at = self.after(words, at, word(words, self.lengths, i));
+            i += 1;
+        }
+        at
+    }
+
+    // The length of the output k, or 0 where there is no room for it.
+    pub fn length(self, words: &[usize], k: usize) -> usize
+        ensures { λ r. ⌜ r ≤ 1024 ⌝ }
+    {
+        let n = word(words, self.lengths, k);
+        if n > ROOM {
+            return 0;
+        }
+        n
     }
 
     pub fn is_right(self, words: &[usize], answer: Answer) -> bool {
@@ -107,12 +141,16 @@ impl Verdict {
         }
     }
 
-    // Whether an output of whole numbers, which stand at `at`, is right.
-    pub fn has_numbers(self, words: &[usize], at: usize, out: &[usize]) -> bool {
-        same_numbers(out, part(words, at, self.listed(out.len())), self.rest())
+    // Whether the output k, of whole numbers, is right.
+    pub fn has_numbers(self, words: &[usize], k: usize, out: &[usize; ROOM]) -> bool {
+        let n = self.length(words, k);
+        let expected = part(words, self.place(words, k), self.listed(n));
+        same_numbers(out, n, expected, self.rest())
     }
 
-    pub fn has_reals(self, words: &[usize], at: usize, out: &[f64]) -> bool {
-        same_reals(out, part(words, at, self.listed(out.len())), self.rest())
+    pub fn has_reals(self, words: &[usize], k: usize, out: &[f64; ROOM]) -> bool {
+        let n = self.length(words, k);
+        let expected = part(words, self.place(words, k), self.listed(n));
+        same_reals(out, n, expected, self.rest())
     }
 }

@@ -9,7 +9,6 @@ use crate::calls::compared;
 use crate::print_broken;
 use crate::tally::ROOTS;
 use crate::tally::Tally;
-use crate::tally::count_other;
 use crate::tally::tallied;
 use crate::words::skip;
 use crate::words::word;
@@ -103,11 +102,7 @@ fn taken(
         1 => is_whole(mesh_at(words, at).end == end, line),
         2 => is_whole(conditions_at(words, at).end == end, line),
         3 => { is_whole(n % 2 == 0, line) && roots(words, floats, lines, at, n / 2, tally) }
-        22 | 26 => {
-            count_other(tally);
-            true
-        }
-        16..=25 => { tallied(tally, kind, line, made(words, floats, w, kind, at, end)) }
+        16..=26 => { tallied(tally, kind, line, made(words, floats, w, kind, at, end)) }
         _ => is_whole(false, line),
     }
 }

@@ -1,16 +1,16 @@
 // The calls of entries of `numerics` with one output.
 use crate::calls::Call;
-use crate::lent::field_after;
-use crate::lent::first_field;
-use crate::lent::stencil_at;
+use crate::lent::field_at;
+use crate::lent::field_of;
+use crate::lent::stencil_of;
 use crate::words::numbers;
 use crate::words::reals;
 use mesh::Answer;
 
 pub fn gradient(words: &[usize], floats: &[f64], c: Call, out: &mut [f64]) -> Answer {
     let m = c.mesh;
-    let s = stencil_at(words, c.at);
-    let pressure = field_after(words, s);
+    let s = stencil_of(words, c.at);
+    let pressure = field_at(words, s.fields, 0);
     numerics::least_squares_gradient(
         m.counts,
         s.number,
@@ -27,7 +27,7 @@ pub fn gradient(words: &[usize], floats: &[f64], c: Call, out: &mut [f64]) -> An
 
 pub fn outflow(words: &[usize], floats: &[f64], c: Call, out: &mut [f64]) -> Answer {
     let m = c.mesh;
-    let flux = first_field(words, c.at);
+    let flux = field_of(words, c.at, 0);
     numerics::integrated_divergence(
         m.counts,
         numbers(words, m.adjacency),

@@ -1,8 +1,8 @@
 // The calls of entries of `simple`.
 use crate::calls::Call;
-use crate::lent::correction_at;
-use crate::lent::first_field;
-use crate::lent::flow_at;
+use crate::lent::field_at;
+use crate::lent::field_of;
+use crate::lent::stencil_of;
 use crate::words::numbers;
 use crate::words::reals;
 use crate::words::skip;
@@ -15,7 +15,7 @@ pub fn diagonal(words: &[usize], floats: &[f64], c: Call, out: &mut [f64]) -> An
 
 pub fn coefficients(words: &[usize], floats: &[f64], c: Call, out: &mut [f64]) -> Answer {
     let m = c.mesh;
-    let responses = first_field(words, c.at);
+    let responses = field_of(words, c.at, 0);
     simple::pressure_face_coefficients(
         m.counts,
         numbers(words, m.adjacency),
@@ -35,7 +35,7 @@ pub fn coefficients_with_boundary(
 ) -> Answer {
     let m = c.mesh;
     let k = c.conditions;
-    let responses = first_field(words, c.at);
+    let responses = field_of(words, c.at, 0);
     simple::pressure_face_coefficients_with_boundary(
         m.counts,
         numbers(words, m.adjacency),
@@ -58,12 +58,11 @@ pub fn prediction(
     predicted: &mut [f64],
 ) -> Answer {
     let m = c.mesh;
-    let flow = flow_at(words, c.at);
-    let s = flow.stencil;
-    let velocity = flow.velocity;
-    let pressure = flow.pressure;
-    let responses = flow.responses;
-    let walls = flow.walls;
+    let s = stencil_of(words, c.at);
+    let velocity = field_at(words, s.fields, 0);
+    let pressure = field_at(words, s.fields, 1);
+    let responses = field_at(words, s.fields, 2);
+    let walls = field_at(words, s.fields, 3);
     simple::rhie_chow_predicted_flux(
         m.counts,
         numbers(words, m.adjacency),
@@ -88,12 +87,33 @@ pub fn prediction(
     )
 }
 
+pub fn flux(words: &[usize], floats: &[f64], c: Call, out: &mut [f64]) -> Answer {
+    let m = c.mesh;
+    let k = c.conditions;
+    let predicted = field_of(words, c.at, 0);
+    let coefficients = field_of(words, c.at, 1);
+    let correction = field_of(words, c.at, 2);
+    simple::correct_face_flux_with_boundary(
+        m.counts,
+        numbers(words, m.adjacency),
+        k.number,
+        numbers(words, k.codes),
+        reals(words, floats, k.values),
+        predicted.number,
+        reals(words, floats, predicted.values),
+        coefficients.number,
+        reals(words, floats, coefficients.values),
+        correction.number,
+        reals(words, floats, correction.values),
+        out,
+    )
+}
+
 pub fn velocity(words: &[usize], floats: &[f64], c: Call, out: &mut [f64]) -> Answer {
     let m = c.mesh;
-    let correction = correction_at(words, c.at);
-    let velocity = correction.velocity;
-    let responses = correction.responses;
-    let gradient = correction.gradient;
+    let velocity = field_of(words, c.at, 0);
+    let responses = field_of(words, c.at, 1);
+    let gradient = field_of(words, c.at, 2);
     simple::correct_cell_velocity_from_gradient(
         m.counts,
         velocity.number,
@@ -114,7 +134,7 @@ pub fn metrics(
     metrics: &mut [f64],
 ) -> Answer {
     let m = c.mesh;
-    let flux = first_field(words, c.at);
+    let flux = field_of(words, c.at, 0);
     simple::continuity_metrics(
         m.counts,
         numbers(words, m.adjacency),

@@ -4,17 +4,17 @@ use mathlib.Core.Logic.{⊎-elim}
 use Prim.Native.Nat.{ℕ, _-_, _≤_, _<_}
 use native.Mathlib.Nat.{eq-or-lt-of-le}
 use native.Mathlib.Omega.{arith}
-use lib.ListN.{length, getD}
+use lib.ListN.{getD}
 use borrow.Author.Needs.{needs}
 use borrow.Author.Tests.{eqb-true}
 use Rattle.replay.proofs.verdict.same_numbers.Statement.{statement}
 use Rattle.replay.proofs.verdict.same_numbers.Tie as tie
 
 abbrev Inv-loop : tie.InvT-loop
-Inv-loop out expected rest i₀ i = (i ≤ length out) × ((j : ℕ) → j < i → getD out j 0 ≡ getD expected j rest)
+Inv-loop out n expected rest i₀ i = (i ≤ n) × ((j : ℕ) → j < i → getD out j 0 ≡ getD expected j rest)
 
 abbrev μ-loop : tie.MeasureT-loop
-μ-loop out expected rest i₀ i = length out - i
+μ-loop out n expected rest i₀ i = n - i
 
 loop-holds : tie.Need-loop-holds Inv-loop μ-loop
 loop-holds c = (omega arith, λ j l. absurd (omega arith))
@@ -22,8 +22,8 @@ loop-holds c = (omega arith, λ j l. absurd (omega arith))
 mul-if1 : tie.Need-mul-if1 Inv-loop μ-loop
 mul-if1 c = search needs
 
-shared-slice-read-if1 : tie.Need-shared-slice-read-if1 Inv-loop μ-loop
-shared-slice-read-if1 c = search needs
+element-copy-out-if1 : tie.Need-element-copy-out-if1 Inv-loop μ-loop
+element-copy-out-if1 c = search needs
 
 expected-at-requires : tie.Need-expected-at-requires Inv-loop μ-loop
 expected-at-requires c κs = search needs
@@ -37,7 +37,7 @@ loop-less c = search needs
 loop-again : tie.Need-loop-again Inv-loop μ-loop
 loop-again c =
     let h = c .before .before .before .before in
-    let a = h .before .before .before .args in
+    let a = h .before .before .args in
     let here : getD (a .out .now) (h .loop .i) 0 ≡ getD (a .expected .now) (h .loop .i) (a .rest) = eqb-true (getD (a .out .now) (h .loop .i) 0) (c .before .expected-at .result) (c .if1 .taken) ∙ c .before .expected-at .ensures in (
       omega arith,
       λ j l.
@@ -46,8 +46,8 @@ loop-again c =
 
 returns : tie.Need-returns Inv-loop μ-loop
 returns c =
-    let out = c .before .before .before .before .args .out .now in
-    λ e j l. c .before .loop .inv .1 j (omega (arith, eqb-true (c .before .loop .i) (length out) e))
+    let n = c .before .before .before .args .n in
+    λ e j l. c .before .loop .inv .1 j (omega (arith, eqb-true (c .before .loop .i) n e))
 
 pub same-numbers-spec : {M : Type 1} → statement M
 same-numbers-spec =
@@ -57,7 +57,7 @@ same-numbers-spec =
     μ-loop
     loop-holds
     mul-if1
-    shared-slice-read-if1
+    element-copy-out-if1
     expected-at-requires
     add-i
     loop-less

@@ -12,11 +12,15 @@ ghost use Rattle.numerics.specs.Gradient.{gradients, gradientChecks};
 ghost use Rattle.numerics.specs.Outflow.{outflows, outflowChecks};
 ghost use Rattle.simple.specs.Boundary.{BoundaryCall};
 ghost use Rattle.simple.specs.Coefficients.{coefficientChecks, coefficientAnswer, coefficients};
+ghost use Rattle.simple.specs.Corrected.{fields, CorrectionCall, Promised};
 ghost use Rattle.simple.specs.Diagonal.{diagonalChecks, inverseAnswer, inverses};
 ghost use Rattle.simple.specs.Grid.{grid, field};
 ghost use Rattle.simple.specs.Metrics.{MetricsCall};
 ghost use Rattle.simple.specs.Prediction.{lent, PredictionCall};
 ghost use Rattle.simple.specs.Velocity.{velocityChecks, velocityAnswer, correctedVelocities};
+ghost use Rattle.step.specs.Call.{handed, StepCall};
+ghost use Rattle.step.specs.Demand.{Demanded};
+ghost use Rattle.step.specs.Step.{given};
 ghost use Rattle.capi.specs.Told.{numberOf, indexOf, Told};
 use mesh::Answer;
 use mesh::Counts;
@@ -268,6 +272,43 @@ pub extern "C" fn juvandeer_rhie_chow_predicted_flux(
     number_of(a)
 }
 
+// `simple::correct_face_flux_with_boundary`.
+#[no_mangle]
+pub extern "C" fn juvandeer_correct_face_flux_with_boundary(
+    counts: Counts,
+    adjacency: &[usize],
+    number: u64,
+    codes: &[usize],
+    values: &[f64],
+    prediction: u64,
+    predicted: &[f64],
+    coefficient: u64,
+    coefficients: &[f64],
+    correction: u64,
+    corrections: &[f64],
+    out: &mut [f64],
+    index: &mut usize,
+) -> u64
+    ensures { λ r. ⌜ Told (λ (a : Answer). CorrectionCall counts (now (adjacency .entry)) (conditions number (now (codes .entry)) (now (values .entry))) (fields (field prediction (now (predicted .entry))) (field coefficient (now (coefficients .entry))) (field correction (now (corrections .entry)))) (now (out .entry)) a (now (out .exit)) × Promised a (now (adjacency .entry)) (conditions number (now (codes .entry)) (now (values .entry))) (fields (field prediction (now (predicted .entry))) (field coefficient (now (coefficients .entry))) (field correction (now (corrections .entry)))) (now (out .exit))) r (now (index .exit)) ⌝ }
+{
+    let a = simple::correct_face_flux_with_boundary(
+        counts,
+        adjacency,
+        number,
+        codes,
+        values,
+        prediction,
+        predicted,
+        coefficient,
+        coefficients,
+        correction,
+        corrections,
+        out,
+    );
+    *index = index_of(a);
+    number_of(a)
+}
+
 // `simple::correct_cell_velocity_from_gradient`.
 #[no_mangle]
 pub extern "C" fn juvandeer_correct_cell_velocity_from_gradient(
@@ -312,6 +353,81 @@ pub extern "C" fn juvandeer_continuity_metrics(
     ensures { λ r. ⌜ Told (λ (a : Answer). MetricsCall counts (now (adjacency .entry)) (now (places .entry)) (field number (now (flux .entry))) (now (outflow .entry)) (now (metrics .entry)) a (now (outflow .exit)) (now (metrics .exit))) r (now (index .exit)) ⌝ }
 {
     let a = simple::continuity_metrics(counts, adjacency, places, number, flux, outflow, metrics);
+    *index = index_of(a);
+    number_of(a)
+}
+
+// `step::step`.
+#[no_mangle]
+pub extern "C" fn juvandeer_step(
+    counts: Counts,
+    adjacency: &[usize],
+    geometry: &[f64],
+    heads: &[usize],
+    places: &[f64],
+    facing: &[usize],
+    bordering: &[usize],
+    number: u64,
+    codes: &[usize],
+    values: &[f64],
+    records: usize,
+    velocity: u64,
+    velocities: &[f64],
+    pressure: u64,
+    pressures: &[f64],
+    response: u64,
+    responses: &[f64],
+    wall: u64,
+    walls: &[f64],
+    correction: u64,
+    corrections: &[f64],
+    starts: &mut [usize],
+    equations: &mut [usize],
+    weights: &mut [f64],
+    inverses: &mut [f64],
+    gradient: &mut [f64],
+    predicted: &mut [f64],
+    coefficients: &mut [f64],
+    flux: &mut [f64],
+    outflow: &mut [f64],
+    metrics: &mut [f64],
+    index: &mut usize,
+) -> u64
+    ensures { λ r. ⌜ Told (λ (a : Answer). StepCall (given (mesh counts (now (adjacency .entry)) (now (geometry .entry)) (now (heads .entry)) (now (places .entry)) (now (facing .entry)) (now (bordering .entry))) (conditions number (now (codes .entry)) (now (values .entry))) records (field velocity (now (velocities .entry))) (field pressure (now (pressures .entry))) (field response (now (responses .entry))) (field wall (now (walls .entry))) (field correction (now (corrections .entry)))) (handed (now (starts .entry)) (now (equations .entry)) (now (weights .entry)) (now (inverses .entry)) (now (gradient .entry)) (now (predicted .entry)) (now (coefficients .entry)) (now (flux .entry)) (now (outflow .entry)) (now (metrics .entry))) a (handed (now (starts .exit)) (now (equations .exit)) (now (weights .exit)) (now (inverses .exit)) (now (gradient .exit)) (now (predicted .exit)) (now (coefficients .exit)) (now (flux .exit)) (now (outflow .exit)) (now (metrics .exit))) × Demanded a (given (mesh counts (now (adjacency .entry)) (now (geometry .entry)) (now (heads .entry)) (now (places .entry)) (now (facing .entry)) (now (bordering .entry))) (conditions number (now (codes .entry)) (now (values .entry))) records (field velocity (now (velocities .entry))) (field pressure (now (pressures .entry))) (field response (now (responses .entry))) (field wall (now (walls .entry))) (field correction (now (corrections .entry)))) (now (flux .exit)) (now (outflow .exit))) r (now (index .exit)) ⌝ }
+{
+    let a = step::step(
+        counts,
+        adjacency,
+        geometry,
+        heads,
+        places,
+        facing,
+        bordering,
+        number,
+        codes,
+        values,
+        records,
+        velocity,
+        velocities,
+        pressure,
+        pressures,
+        response,
+        responses,
+        wall,
+        walls,
+        correction,
+        corrections,
+        starts,
+        equations,
+        weights,
+        inverses,
+        gradient,
+        predicted,
+        coefficients,
+        flux,
+        outflow,
+        metrics,
+    );
     *index = index_of(a);
     number_of(a)
 }

@@ -35,15 +35,54 @@ struct Tally {
     /// Compared calls on input that no mesh of the Rust gives and that no check refuses.
     beyond: u64,
     smallest: Option<Difference>,
+    claims: Claims,
 }
 
-/// Claims that are checked on the Rust alone.
+/// Accepted calls that are held to demand 3 in exact arithmetic.
 #[derive(Default)]
 struct Claims {
-    accepted_steps: u64,
-    steps_as_parts: u64,
+    met: u64,
+    kept_faces: u64,
     opposite_pairs: u64,
     failed: Vec<String>,
+}
+
+impl Claims {
+    fn check(&mut self, name: &str, entry: Entry, lent: &Lent, outputs: &Slices) {
+        match exact::claims(entry, lent, outputs) {
+            Some(Ok(claimed)) => {
+                self.met += 1;
+                self.kept_faces += claimed.kept;
+                self.opposite_pairs += claimed.opposite;
+            }
+            Some(Err(failure)) => {
+                let failure = format!("{failure}: {} on {name}", entry.name());
+                self.failed.push(failure);
+            }
+            None => {}
+        }
+    }
+
+    fn print(&self, whose: &str) {
+        println!(
+            "{whose}: {} accepted calls meet demand 3 in exact arithmetic ({} faces keep their flux, \
+             {} linked pairs stay opposite), {} fail",
+            self.met,
+            self.kept_faces,
+            self.opposite_pairs,
+            self.failed.len()
+        );
+        print_failures(&self.failed);
+    }
+}
+
+/// What is checked on the Rust alone.
+#[derive(Default)]
+struct Alone {
+    steps_as_parts: u64,
+    failed: Vec<String>,
+    /// Of the entries that demand 3 speaks of.
+    claims: [Claims; exact::CLAIMED.len()],
 }
 
 /// Compares, prints the counts, and gives whether all agreed.
@@ -64,16 +103,16 @@ pub fn run(port: &Port, settings: &Settings) -> bool {
         }
         None => println!("sqrt: the port is not linked"),
     }
-    let mut claims = Claims::default();
+    let mut alone = Alone::default();
     let tallies = tallies(port, &mut random, settings, &mut |random, case| {
-        check_claims(random, case, &mut claims);
+        check_alone(random, case, &mut alone);
     });
     for (entry, tally) in Entry::ALL.into_iter().zip(&tallies) {
         print_tally(entry, port.call(entry).is_some(), tally);
         total += tally.compared;
         differ += tally.differ;
     }
-    print_claims(&claims);
+    print_alone(&alone);
     let smallest = tallies
         .iter()
         .filter_map(|tally| tally.smallest.as_ref())
@@ -86,7 +125,11 @@ pub fn run(port: &Port, settings: &Settings) -> bool {
     } else {
         println!("{total} compared, {differ} differ");
     }
-    differ == 0 && claims.failed.is_empty()
+    let claims = tallies.iter().map(|tally| &tally.claims);
+    let all_met = claims
+        .chain(&alone.claims)
+        .all(|claims| claims.failed.is_empty());
+    differ == 0 && alone.failed.is_empty() && all_met
 }
 
 /// How many calls differ, without a word.
@@ -119,17 +162,21 @@ fn tallies(
     tallies
 }
 
-fn print_claims(claims: &Claims) {
-    println!(
-        "on the Rust alone: {} accepted steps meet demand 3, {} steps equal their parts, \
-         {} linked pairs stay opposite, {} fail",
-        claims.accepted_steps,
-        claims.steps_as_parts,
-        claims.opposite_pairs,
-        claims.failed.len()
-    );
-    for failure in claims.failed.iter().take(5) {
+fn print_failures(failures: &[String]) {
+    for failure in failures.iter().take(5) {
         println!("{failure}");
+    }
+}
+
+fn print_alone(alone: &Alone) {
+    println!(
+        "the Rust alone: {} steps equal their parts, {} fail",
+        alone.steps_as_parts,
+        alone.failed.len()
+    );
+    print_failures(&alone.failed);
+    for (entry, claims) in exact::CLAIMED.iter().zip(&alone.claims) {
+        claims.print(&format!("the Rust alone, {}", entry.name()));
     }
 }
 
@@ -147,6 +194,9 @@ fn print_tally(entry: Entry, is_linked: bool, tally: &Tally) {
         tally.beyond,
         tally.differ
     );
+    if exact::CLAIMED.contains(&entry) {
+        tally.claims.print(entry.name());
+    }
 }
 
 /// One entry on one case, whole and damaged.
@@ -245,6 +295,9 @@ fn compare_call(
     tally.beyond += u64::from(!built && kind != 1);
     let wanted = expected.contents(entry, outputs);
     let Some(difference) = difference(entry, lent, &expected, &wanted, answer, &written) else {
+        if answer == Answer::Accepted {
+            tally.claims.check(name, entry, lent, &written);
+        }
         return;
     };
     tally.differ += 1;
@@ -398,36 +451,23 @@ fn roots(random: &mut Random, sqrt: fn(f64) -> f64, count: usize) -> Roots {
 
 /// On the Rust alone: the lent form is turned into the Rust's objects and back without loss, equations are
 /// counted as the Rust counts them, the step equals its parts, and accepted calls meet demand 3.
-fn check_claims(random: &mut Random, case: &Case, claims: &mut Claims) {
+fn check_alone(random: &mut Random, case: &Case, alone: &mut Alone) {
     let lent = case.lent_to(random, Entry::Step);
     if !is_same_again(&lent) || !calls::counts_agree(&lent) {
         let failure = format!("the lent form is not that of the Rust: {}", case.name);
-        claims.failed.push(failure);
+        alone.failed.push(failure);
     }
     let whole = calls::run(Entry::Step, &lent);
     let parts = cases::step_by_parts(&lent);
     if is_same_outcome(&whole, &parts) {
-        claims.steps_as_parts += 1;
+        alone.steps_as_parts += 1;
     } else {
         let failure = format!("the step is not its parts: {}", case.name);
-        claims.failed.push(failure);
+        alone.failed.push(failure);
     }
-    for entry in [Entry::Step, Entry::CorrectFaceFluxWithBoundary] {
-        let Outcome::Accepted(outputs) = calls::run(entry, &lent) else {
-            continue;
-        };
-        if let Err(failure) = exact::claims(entry, &lent, &outputs) {
-            let failure = format!("{failure}: {} on {}", entry.name(), case.name);
-            claims.failed.push(failure);
-        }
-        if entry == Entry::Step {
-            claims.accepted_steps += 1;
-            let coefficients = &outputs.coefficients;
-            claims.opposite_pairs += exact::opposite_pairs(&lent, Part::Walls, coefficients) as u64;
-        } else {
-            let coefficients = &lent.slices.coefficients;
-            claims.opposite_pairs +=
-                exact::opposite_pairs(&lent, Part::Predicted, coefficients) as u64;
+    for (entry, claims) in exact::CLAIMED.into_iter().zip(&mut alone.claims) {
+        if let Outcome::Accepted(outputs) = calls::run(entry, &lent) {
+            claims.check(&case.name, entry, &lent, &outputs);
         }
     }
 }

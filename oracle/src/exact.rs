@@ -1,6 +1,6 @@
 //! Exact arithmetic for demand 3: a finite float as a whole number of units of 2^-1074.
 
-use crate::entry::{Entry, Part};
+use crate::entry::Entry;
 use crate::lent::{Lent, Slices};
 
 const WORDS: usize = 36;
@@ -139,126 +139,144 @@ fn parts(x: f64) -> Option<(u64, i32)> {
     }
 }
 
-/// Demand 3 for an accepted step: outflows near the exact sums of their terms, kept and opposite fluxes.
-pub fn demand_3(lent: &Lent, outputs: &Slices) -> Result<(), String> {
-    balance(lent, &outputs.flux, &outputs.outflow)?;
-    kept_and_opposite(
-        lent,
-        &lent.slices.walls,
-        &outputs.coefficients,
-        &outputs.flux,
-    )
+/// How many faces and pairs of an accepted call demand 3 speaks of.
+#[derive(Clone, Copy, Default)]
+pub struct Claimed {
+    /// Faces that keep their given flux.
+    pub kept: u64,
+    /// Linked pairs that stay opposite.
+    pub opposite: u64,
 }
 
-/// What demand 3 claims of an accepted entry, if anything.
-pub fn claims(entry: Entry, lent: &Lent, outputs: &Slices) -> Result<(), String> {
+/// The entries of which demand 3 claims something.
+pub const CLAIMED: [Entry; 2] = [Entry::CorrectFaceFluxWithBoundary, Entry::Step];
+
+/// Demand 3 for an accepted call of such an entry.
+pub fn claims(entry: Entry, lent: &Lent, outputs: &Slices) -> Option<Result<Claimed, String>> {
+    let slices = &lent.slices;
     match entry {
-        Entry::Step => demand_3(lent, outputs),
-        Entry::CorrectFaceFluxWithBoundary => kept_and_opposite(
-            lent,
-            &lent.slices.predicted,
-            &lent.slices.coefficients,
-            &outputs.flux,
+        Entry::Step => Some(
+            balance(lent, &outputs.flux, &outputs.outflow).and_then(|()| {
+                kept_and_opposite(lent, &slices.walls, &outputs.coefficients, &outputs.flux)
+            }),
         ),
-        _ => Ok(()),
+        Entry::CorrectFaceFluxWithBoundary => Some(kept_and_opposite(
+            lent,
+            &slices.predicted,
+            &slices.coefficients,
+            &outputs.flux,
+        )),
+        _ => None,
     }
 }
 
-/// For each cell |outflow − exact sum| × 2^53 ≤ (terms − 1) × sum of magnitudes; and the exact sums of
-/// all cells give the exact sum over one-cell faces.
-fn balance(lent: &Lent, flux: &[f64], outflow: &[f64]) -> Result<(), String> {
-    #[derive(Clone, Copy)]
-    struct Sum {
-        terms: u64,
-        exact: Units,
-        magnitudes: Units,
+/// A cell's terms: how many there are, their exact sum, and the exact sum of their magnitudes.
+#[derive(Clone, Copy)]
+struct Terms {
+    count: u64,
+    exact: Units,
+    magnitudes: Units,
+}
+
+impl Terms {
+    const NONE: Terms = Terms {
+        count: 0,
+        exact: Units::ZERO,
+        magnitudes: Units::ZERO,
+    };
+
+    fn add(&mut self, term: Units) {
+        self.count += 1;
+        self.exact = self.exact.plus(term);
+        self.magnitudes = self.magnitudes.plus(term.magnitude());
     }
-    let mut sums = vec![
-        Sum {
-            terms: 0,
-            exact: Units::ZERO,
-            magnitudes: Units::ZERO,
-        };
-        lent.counts.cells
-    ];
+
+    /// How far a rounded sum may be from the exact one, times 2^53.
+    fn bound(&self) -> Units {
+        self.magnitudes.times(self.count.saturating_sub(1))
+    }
+}
+
+/// Whether |found − exact| × 2^53 ≤ bound.
+fn is_near(found: Units, exact: Units, bound: Units) -> bool {
+    found.minus(exact).magnitude().shifted(53).at_most(bound)
+}
+
+/// Every flux and every outflow is finite, each cell's outflow is within its bound of the exact sum of its
+/// terms, and all together are within the sum of these bounds of the exact flux through one-cell faces.
+fn balance(lent: &Lent, flux: &[f64], outflow: &[f64]) -> Result<(), String> {
+    let mut cells = vec![Terms::NONE; lent.counts.cells];
     let mut outside = Units::ZERO;
     for (face, &flux) in flux.iter().enumerate() {
         if !flux.is_finite() {
             return Err(format!("the flux of face {face} is not finite"));
         }
         let units = Units::of(flux);
-        let mut add = |cell: usize, term: Units| {
-            let sum = &mut sums[cell];
-            sum.terms += 1;
-            sum.exact = sum.exact.plus(term);
-            sum.magnitudes = sum.magnitudes.plus(term.magnitude());
-        };
-        add(lent.slices.adjacency[2 * face], units);
+        cells[lent.slices.adjacency[2 * face]].add(units);
         match lent.slices.adjacency[2 * face + 1] {
             0 => outside = outside.plus(units),
-            neighbour => add(neighbour - 1, units.negated()),
+            neighbour => cells[neighbour - 1].add(units.negated()),
         }
     }
-    for (cell, sum) in sums.iter().enumerate() {
-        if !outflow[cell].is_finite() {
+    let mut total = Units::ZERO;
+    let mut allowance = Units::ZERO;
+    for (cell, (terms, &outflow)) in cells.iter().zip(outflow).enumerate() {
+        if !outflow.is_finite() {
             return Err(format!("the outflow of cell {cell} is not finite"));
         }
-        let error = Units::of(outflow[cell]).minus(sum.exact).magnitude();
-        let bound = sum.magnitudes.times(sum.terms.saturating_sub(1));
-        if !error.shifted(53).at_most(bound) {
+        if !is_near(Units::of(outflow), terms.exact, terms.bound()) {
             return Err(format!("the outflow of cell {cell} is out of its bound"));
         }
+        total = total.plus(Units::of(outflow));
+        allowance = allowance.plus(terms.bound());
     }
-    let total = sums
-        .iter()
-        .fold(Units::ZERO, |all, sum| all.plus(sum.exact));
-    if total != outside {
-        return Err("the exact sums do not telescope".to_string());
+    if !is_near(total, outside, allowance) {
+        return Err("the outflows together are out of their bound".to_string());
     }
     Ok(())
 }
 
-/// Unlinked zero-gradient one-cell faces keep the given flux. Linked pairs with opposite given fluxes and
-/// equal coefficients stay opposite, a zero's sign aside.
+/// Whether a face has one cell, no link and a zero gradient, so that it keeps its given flux.
+pub fn is_kept(lent: &Lent, face: usize) -> bool {
+    lent.slices.adjacency[2 * face + 1] == 0
+        && lent.slices.codes[2 * face] == 2
+        && lent.slices.codes[2 * face + 1] == 0
+}
+
+/// The face that is linked with this one, where the two are given opposite fluxes, a zero's sign aside, and
+/// equal coefficients.
+pub fn opposite_peer(
+    lent: &Lent,
+    given: &[f64],
+    coefficients: &[f64],
+    face: usize,
+) -> Option<usize> {
+    let peer = lent.slices.codes[2 * face + 1].checked_sub(1)?;
+    let is_opposite = given[face] == -given[peer] && coefficients[face] == coefficients[peer];
+    is_opposite.then_some(peer)
+}
+
+/// Kept faces have the bits of their given flux, and opposite pairs have opposite fluxes, a zero's sign aside.
 fn kept_and_opposite(
     lent: &Lent,
     given: &[f64],
     coefficients: &[f64],
     flux: &[f64],
-) -> Result<(), String> {
-    let slices = &lent.slices;
+) -> Result<Claimed, String> {
+    let mut claimed = Claimed::default();
     for face in 0..lent.counts.faces {
-        let (code, linked) = (slices.codes[2 * face], slices.codes[2 * face + 1]);
-        if slices.adjacency[2 * face + 1] != 0 {
-            continue;
+        if is_kept(lent, face) {
+            if flux[face].to_bits() != given[face].to_bits() {
+                return Err(format!("face {face} does not keep its flux"));
+            }
+            claimed.kept += 1;
         }
-        if code == 2 && linked == 0 && flux[face].to_bits() != given[face].to_bits() {
-            return Err(format!("face {face} does not keep its flux"));
-        }
-        if let Some(peer) = linked.checked_sub(1) {
-            let opposite = given[face] == -given[peer] && coefficients[face] == coefficients[peer];
-            if opposite && flux[face] != -flux[peer] {
+        if let Some(peer) = opposite_peer(lent, given, coefficients, face) {
+            if flux[face] != -flux[peer] {
                 return Err(format!("faces {face} and {peer} are not opposite"));
             }
+            claimed.opposite += u64::from(face < peer);
         }
     }
-    Ok(())
-}
-
-/// How many linked pairs of a call are given opposite fluxes and equal coefficients.
-pub fn opposite_pairs(lent: &Lent, part: Part, coefficients: &[f64]) -> usize {
-    let given = match part {
-        Part::Walls => &lent.slices.walls,
-        _ => &lent.slices.predicted,
-    };
-    let is_pair = |&face: &usize| {
-        lent.slices.codes[2 * face + 1]
-            .checked_sub(1)
-            .is_some_and(|peer| {
-                face < peer
-                    && given[face] == -given[peer]
-                    && coefficients[face] == coefficients[peer]
-            })
-    };
-    (0..lent.counts.faces).filter(is_pair).count()
+    Ok(claimed)
 }

@@ -1,13 +1,15 @@
-//! The comparison tried on itself: a port that is the checks and the Rust must agree, and that port
-//! spoiled in one way must be caught.
+//! The comparison tried on itself: a port that is the checks and the Rust must agree, that port spoiled in
+//! one way must be caught, and so must outputs that break demand 3.
 
 use crate::calls::{self, Outcome};
-use crate::cases::Settings;
+use crate::cases::{self, Settings};
 use crate::checks;
 use crate::compare::{self, expected};
 use crate::entry::{Entry, Part};
+use crate::exact;
 use crate::lent::{Lent, SliceMut, Slices};
 use crate::port::{Answer, Call, Port};
+use crate::random::Random;
 
 /// One way to be wrong: changes the answer or the outputs of a right call. It is given the outputs as
 /// they were before the call.
@@ -44,8 +46,86 @@ pub fn run(settings: &Settings) -> bool {
         entries: Vec::new(),
     };
     try_sham("subnormals not brought to full width", port);
-    all_right
+    all_right & breaches_are_caught(settings)
 }
+
+/// One way to break demand 3 in the outputs of an accepted call; gives whether they let it.
+struct Breach {
+    name: &'static str,
+    entry: Entry,
+    breach: fn(&Lent, &mut Slices) -> bool,
+}
+
+/// Whether the exact arithmetic finds every breach of demand 3 in the Rust's outputs.
+fn breaches_are_caught(settings: &Settings) -> bool {
+    let mut counts = vec![(0, 0); BREACHES.len()];
+    let mut random = Random::new(settings.seed);
+    cases::each(&mut random, settings, &mut |random, case, _| {
+        for (breach, (tried, caught)) in BREACHES.iter().zip(&mut counts) {
+            let lent = case.lent_to(random, breach.entry);
+            let Outcome::Accepted(mut outputs) = calls::run(breach.entry, &lent) else {
+                continue;
+            };
+            if (breach.breach)(&lent, &mut outputs) {
+                *tried += 1;
+                let claims = exact::claims(breach.entry, &lent, &outputs);
+                *caught += u64::from(claims.is_some_and(|claims| claims.is_err()));
+            }
+        }
+    });
+    for (breach, (tried, caught)) in BREACHES.iter().zip(&counts) {
+        println!("demand 3, {}: {caught} of {tried} caught", breach.name);
+    }
+    counts
+        .iter()
+        .all(|&(tried, caught)| tried > 0 && tried == caught)
+}
+
+/// Moves a number to the next one in bits.
+fn nudge(x: &mut f64) {
+    *x = f64::from_bits(x.to_bits() ^ 1);
+}
+
+const BREACHES: &[Breach] = &[
+    Breach {
+        name: "an outflow that is not finite",
+        entry: Entry::Step,
+        breach: |_, outputs| {
+            outputs.outflow[0] = f64::NAN;
+            true
+        },
+    },
+    Breach {
+        name: "an outflow past its bound",
+        entry: Entry::Step,
+        breach: |lent, outputs| {
+            let last = lent.counts.cells - 1;
+            let fluxes = outputs.flux.iter().map(|flux| flux.abs());
+            outputs.outflow[last] += fluxes.fold(f64::from_bits(1), f64::max);
+            true
+        },
+    },
+    Breach {
+        name: "a flux that is not kept",
+        entry: Entry::CorrectFaceFluxWithBoundary,
+        breach: |lent, outputs| {
+            let kept = (0..lent.counts.faces).find(|&face| exact::is_kept(lent, face));
+            kept.map(|face| nudge(&mut outputs.flux[face])).is_some()
+        },
+    },
+    Breach {
+        name: "a linked pair that is not opposite",
+        entry: Entry::CorrectFaceFluxWithBoundary,
+        breach: |lent, outputs| {
+            let slices = &lent.slices;
+            let mut faces = 0..lent.counts.faces;
+            let pair = faces.find(|&face| {
+                exact::opposite_peer(lent, &slices.predicted, &slices.coefficients, face).is_some()
+            });
+            pair.map(|face| nudge(&mut outputs.flux[face])).is_some()
+        },
+    },
+];
 
 /// The root of a subnormal number from its leading 26 bits only.
 fn truncated_root(x: f64) -> f64 {

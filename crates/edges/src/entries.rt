@@ -2,7 +2,11 @@
 // can give. A case is the base of `case` with one change. oracle/src/edges.rs has the same cases, in the
 // same order and by the same names, and makes the expected lines from the Rust.
 use case::Case;
+use mesh::Counts;
 use pattern::print;
+use slice::FLOATS;
+use slice::SLICES;
+use slice::WHOLES;
 
 mod boundary;
 mod case;
@@ -48,17 +52,35 @@ fn print_entry(kind: usize) {
     }
 }
 
-// Makes a case's call, and writes its line.
+// Makes the call of a kind, and writes its answer and its outputs; lent are the counts, the room for
+// records, the slices' lengths and mesh numbers, the whole numbers and the floats.
+fn show(
+    kind: usize,
+    counts: Counts,
+    records: usize,
+    n: &[usize; SLICES],
+    m: &[u64; SLICES],
+    w: &[usize; WHOLES],
+    x: &[f64; FLOATS],
+) {
+    match kind {
+        17 => stencil::show(counts, records, n, m, w, x),
+        21 | 25 => two::show(kind, counts, records, n, m, w, x),
+        26 => whole_step::show(counts, records, n, m, w, x),
+        _ => one::show(kind, counts, records, n, m, w, x),
+    }
+}
+
+// Writes a case's line.
 fn run(kind: usize, name: &[u8], case: Case) {
     print_entry(kind);
     print::text(b", ");
     print::text(name);
-    match kind {
-        17 => stencil::show(case),
-        21 | 25 => two::show(kind, case),
-        26 => whole_step::show(case),
-        _ => one::show(kind, case),
-    }
+    let n = case.lengths;
+    let m = case.numbers;
+    let w = case.whole;
+    let x = case.floats;
+    show(kind, case.counts, case.records, &n, &m, &w, &x);
     print::text(b"\n");
 }
 

@@ -40,7 +40,7 @@ fn checked(
     )
 }
 
-fn cells(n: &[usize], x: &[f64]) {
+fn cells(n: &[usize; 131072], x: &[f64; 589824]) {
     print(b"no cell", checked(n, x, 0, 0, 0, 0));
     print(b"no cell but a face", checked(n, x, 0, 1, 0, 0));
     print(b"one cell with no face", checked(n, x, 1, 0, 0, 0));
@@ -48,7 +48,7 @@ fn cells(n: &[usize], x: &[f64]) {
     print(b"65536 cells", checked(n, x, 65536, 0, 0, 0));
 }
 
-fn others(n: &[usize], x: &[f64]) {
+fn others(n: &[usize; 131072], x: &[f64; 589824]) {
     print(b"65535 faces", checked(n, x, 1, 65535, 0, 0));
     print(b"65536 faces", checked(n, x, 1, 65536, 0, 0));
     print(b"65535 face records", checked(n, x, 1, 0, 65535, 0));

@@ -77,12 +77,6 @@ pub fn base() -> Case {
 }
 
 impl Case {
-    pub fn length(self, slice: usize) -> usize
-        requires { ⌜ slice < 25 ⌝ }
-    {
-        self.lengths[slice]
-    }
-
     pub fn with_dimension(mut self, n: usize) -> Case {
         self.counts.dimension = n;
         self

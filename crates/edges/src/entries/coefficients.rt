@@ -1,30 +1,36 @@
 // `simple::pressure_face_coefficients`: 1 to 4, 7 and 9.
 use crate::entries::FARTHER;
 use crate::entries::NEAR;
-use crate::entries::case::Case;
 use crate::entries::change;
 use crate::entries::slice::ADJACENCY;
+use crate::entries::slice::FLOATS;
 use crate::entries::slice::GEOMETRY;
 use crate::entries::slice::PLACES;
 use crate::entries::slice::RESPONSES;
+use crate::entries::slice::SLICES;
+use crate::entries::slice::WHOLES;
 use crate::entries::slice::float;
 use crate::entries::slice::whole;
 use mesh::Answer;
+use mesh::Counts;
 
 const KIND: usize = 19;
 
-pub fn call(case: Case, out: &mut [f64]) -> Answer {
-    let n = case.lengths;
-    let m = case.numbers;
-    let w = case.whole;
-    let x = case.floats;
+pub fn call(
+    counts: Counts,
+    n: &[usize; SLICES],
+    m: &[u64; SLICES],
+    w: &[usize; WHOLES],
+    x: &[f64; FLOATS],
+    out: &mut [f64],
+) -> Answer {
     simple::pressure_face_coefficients(
-        case.counts,
-        whole(&w, &n, ADJACENCY),
-        float(&x, &n, GEOMETRY),
-        float(&x, &n, PLACES),
+        counts,
+        whole(w, n, ADJACENCY),
+        float(x, n, GEOMETRY),
+        float(x, n, PLACES),
         m[RESPONSES],
-        float(&x, &n, RESPONSES),
+        float(x, n, RESPONSES),
         out,
     )
 }

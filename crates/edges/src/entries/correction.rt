@@ -1,36 +1,42 @@
 // `simple::correct_face_flux_with_boundary`: 1 to 4, 6, 9 and 10.
-use crate::entries::case::Case;
 use crate::entries::change;
 use crate::entries::slice::ADJACENCY;
 use crate::entries::slice::CODES;
 use crate::entries::slice::COEFFICIENTS;
 use crate::entries::slice::CORRECTION;
+use crate::entries::slice::FLOATS;
 use crate::entries::slice::FLUX;
 use crate::entries::slice::PREDICTED;
+use crate::entries::slice::SLICES;
 use crate::entries::slice::VALUES;
+use crate::entries::slice::WHOLES;
 use crate::entries::slice::float;
 use crate::entries::slice::whole;
 use mesh::Answer;
+use mesh::Counts;
 
 const KIND: usize = 22;
 
-pub fn call(case: Case, out: &mut [f64]) -> Answer {
-    let n = case.lengths;
-    let m = case.numbers;
-    let w = case.whole;
-    let x = case.floats;
+pub fn call(
+    counts: Counts,
+    n: &[usize; SLICES],
+    m: &[u64; SLICES],
+    w: &[usize; WHOLES],
+    x: &[f64; FLOATS],
+    out: &mut [f64],
+) -> Answer {
     simple::correct_face_flux_with_boundary(
-        case.counts,
-        whole(&w, &n, ADJACENCY),
+        counts,
+        whole(w, n, ADJACENCY),
         m[CODES],
-        whole(&w, &n, CODES),
-        float(&x, &n, VALUES),
+        whole(w, n, CODES),
+        float(x, n, VALUES),
         m[PREDICTED],
-        float(&x, &n, PREDICTED),
+        float(x, n, PREDICTED),
         m[COEFFICIENTS],
-        float(&x, &n, COEFFICIENTS),
+        float(x, n, COEFFICIENTS),
         m[CORRECTION],
-        float(&x, &n, CORRECTION),
+        float(x, n, CORRECTION),
         out,
     )
 }

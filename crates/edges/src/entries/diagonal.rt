@@ -1,17 +1,17 @@
 // `simple::momentum_inverse_diagonal`: 1, 2 and 11.
-use crate::entries::case::Case;
 use crate::entries::change;
 use crate::entries::slice::DIAGONAL;
+use crate::entries::slice::FLOATS;
 use crate::entries::slice::RESPONSES;
+use crate::entries::slice::SLICES;
 use crate::entries::slice::float;
 use mesh::Answer;
+use mesh::Counts;
 
 const KIND: usize = 16;
 
-pub fn call(case: Case, out: &mut [f64]) -> Answer {
-    let n = case.lengths;
-    let x = case.floats;
-    simple::momentum_inverse_diagonal(case.counts, float(&x, &n, DIAGONAL), out)
+pub fn call(counts: Counts, n: &[usize; SLICES], x: &[f64; FLOATS], out: &mut [f64]) -> Answer {
+    simple::momentum_inverse_diagonal(counts, float(x, n, DIAGONAL), out)
 }
 
 pub fn cases() {

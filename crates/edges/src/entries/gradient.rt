@@ -1,32 +1,39 @@
 // `numerics::least_squares_gradient`: 1, 2, 3 and 5.
-use crate::entries::case::Case;
 use crate::entries::change;
 use crate::entries::slice::EQUATIONS;
+use crate::entries::slice::FLOATS;
 use crate::entries::slice::INVERSES;
 use crate::entries::slice::PRESSURE;
+use crate::entries::slice::SLICES;
 use crate::entries::slice::STARTS;
 use crate::entries::slice::WEIGHTS;
+use crate::entries::slice::WHOLES;
 use crate::entries::slice::float;
 use crate::entries::slice::whole;
 use mesh::Answer;
+use mesh::Counts;
 
 const KIND: usize = 18;
 
-pub fn call(case: Case, out: &mut [f64]) -> Answer {
-    let n = case.lengths;
-    let m = case.numbers;
-    let w = case.whole;
-    let x = case.floats;
+pub fn call(
+    counts: Counts,
+    records: usize,
+    n: &[usize; SLICES],
+    m: &[u64; SLICES],
+    w: &[usize; WHOLES],
+    x: &[f64; FLOATS],
+    out: &mut [f64],
+) -> Answer {
     numerics::least_squares_gradient(
-        case.counts,
+        counts,
         m[STARTS],
-        case.records,
-        whole(&w, &n, STARTS),
-        whole(&w, &n, EQUATIONS),
-        float(&x, &n, WEIGHTS),
-        float(&x, &n, INVERSES),
+        records,
+        whole(w, n, STARTS),
+        whole(w, n, EQUATIONS),
+        float(x, n, WEIGHTS),
+        float(x, n, INVERSES),
         m[PRESSURE],
-        float(&x, &n, PRESSURE),
+        float(x, n, PRESSURE),
         out,
     )
 }

@@ -1,27 +1,34 @@
 // `simple::continuity_metrics`: 1 to 4, 9 and 12.
-use crate::entries::case::Case;
 use crate::entries::change;
 use crate::entries::slice::ADJACENCY;
+use crate::entries::slice::FLOATS;
 use crate::entries::slice::FLUX;
 use crate::entries::slice::METRICS;
 use crate::entries::slice::PLACES;
+use crate::entries::slice::SLICES;
+use crate::entries::slice::WHOLES;
 use crate::entries::slice::float;
 use crate::entries::slice::whole;
 use mesh::Answer;
+use mesh::Counts;
 
 const KIND: usize = 25;
 
-pub fn call(case: Case, outflow: &mut [f64], metrics: &mut [f64]) -> Answer {
-    let n = case.lengths;
-    let m = case.numbers;
-    let w = case.whole;
-    let x = case.floats;
+pub fn call(
+    counts: Counts,
+    n: &[usize; SLICES],
+    m: &[u64; SLICES],
+    w: &[usize; WHOLES],
+    x: &[f64; FLOATS],
+    outflow: &mut [f64],
+    metrics: &mut [f64],
+) -> Answer {
     simple::continuity_metrics(
-        case.counts,
-        whole(&w, &n, ADJACENCY),
-        float(&x, &n, PLACES),
+        counts,
+        whole(w, n, ADJACENCY),
+        float(x, n, PLACES),
         m[FLUX],
-        float(&x, &n, FLUX),
+        float(x, n, FLUX),
         outflow,
         metrics,
     )

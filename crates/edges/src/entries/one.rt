@@ -1,7 +1,6 @@
 // The calls of entries with one output.
 ghost use Prim.Native.Nat.{_<_};
 use crate::entries::boundary;
-use crate::entries::case::Case;
 use crate::entries::coefficients;
 use crate::entries::correction;
 use crate::entries::diagonal;
@@ -10,9 +9,13 @@ use crate::entries::outflow;
 use crate::entries::output;
 use crate::entries::output::ROOM;
 use crate::entries::slice;
+use crate::entries::slice::FLOATS;
+use crate::entries::slice::SLICES;
+use crate::entries::slice::WHOLES;
 use crate::entries::velocity;
 use crate::print_answer;
 use mesh::Answer;
+use mesh::Counts;
 
 // The slice that a kind of call hands out.
 fn output_of(kind: usize) -> usize
@@ -28,32 +31,58 @@ fn output_of(kind: usize) -> usize
     }
 }
 
-fn call(kind: usize, case: Case, out: &mut [f64]) -> Answer {
+fn call(
+    kind: usize,
+    counts: Counts,
+    records: usize,
+    n: &[usize; SLICES],
+    m: &[u64; SLICES],
+    w: &[usize; WHOLES],
+    x: &[f64; FLOATS],
+    out: &mut [f64],
+) -> Answer {
     match kind {
-        16 => diagonal::call(case, out),
-        18 => gradient::call(case, out),
-        19 => coefficients::call(case, out),
-        20 => boundary::call(case, out),
-        22 => correction::call(case, out),
-        23 => velocity::call(case, out),
-        _ => outflow::call(case, out),
+        16 => diagonal::call(counts, n, x, out),
+        18 => gradient::call(counts, records, n, m, w, x, out),
+        19 => coefficients::call(counts, n, m, w, x, out),
+        20 => boundary::call(counts, n, m, w, x, out),
+        22 => correction::call(counts, n, m, w, x, out),
+        23 => velocity::call(counts, n, m, x, out),
+        _ => outflow::call(counts, n, m, w, x, out),
     }
 }
 
 // Makes the call, and writes its answer and its output.
-fn show_call(kind: usize, case: Case, out: &mut [f64]) {
-    if print_answer(call(kind, case, out)) {
+fn show_call(
+    kind: usize,
+    counts: Counts,
+    records: usize,
+    n: &[usize; SLICES],
+    m: &[u64; SLICES],
+    w: &[usize; WHOLES],
+    x: &[f64; FLOATS],
+    out: &mut [f64],
+) {
+    if print_answer(call(kind, counts, records, n, m, w, x, out)) {
         output::print_floats(out);
     } else {
         output::print_left(output::held(out));
     }
 }
 
-pub fn show(kind: usize, case: Case) {
+pub fn show(
+    kind: usize,
+    counts: Counts,
+    records: usize,
+    n: &[usize; SLICES],
+    m: &[u64; SLICES],
+    w: &[usize; WHOLES],
+    x: &[f64; FLOATS],
+) {
     let mut out = [output::fill(); ROOM];
-    let n = case.length(output_of(kind));
-    if n > ROOM {
+    let k = n[output_of(kind)];
+    if k > ROOM {
         return;
     }
-    show_call(kind, case, &mut out[..n]);
+    show_call(kind, counts, records, n, m, w, x, &mut out[..k]);
 }

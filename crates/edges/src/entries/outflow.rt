@@ -1,25 +1,31 @@
 // `numerics::integrated_divergence`: 1 to 4.
-use crate::entries::case::Case;
 use crate::entries::change;
 use crate::entries::slice::ADJACENCY;
+use crate::entries::slice::FLOATS;
 use crate::entries::slice::FLUX;
 use crate::entries::slice::OUTFLOW;
+use crate::entries::slice::SLICES;
+use crate::entries::slice::WHOLES;
 use crate::entries::slice::float;
 use crate::entries::slice::whole;
 use mesh::Answer;
+use mesh::Counts;
 
 const KIND: usize = 24;
 
-pub fn call(case: Case, out: &mut [f64]) -> Answer {
-    let n = case.lengths;
-    let m = case.numbers;
-    let w = case.whole;
-    let x = case.floats;
+pub fn call(
+    counts: Counts,
+    n: &[usize; SLICES],
+    m: &[u64; SLICES],
+    w: &[usize; WHOLES],
+    x: &[f64; FLOATS],
+    out: &mut [f64],
+) -> Answer {
     numerics::integrated_divergence(
-        case.counts,
-        whole(&w, &n, ADJACENCY),
+        counts,
+        whole(w, n, ADJACENCY),
         m[FLUX],
-        float(&x, &n, FLUX),
+        float(x, n, FLUX),
         out,
     )
 }

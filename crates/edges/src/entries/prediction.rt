@@ -1,48 +1,56 @@
 // `simple::rhie_chow_predicted_flux`: 1 to 5, 7 and 9.
 use crate::entries::NEAR;
-use crate::entries::case::Case;
 use crate::entries::change;
 use crate::entries::slice::ADJACENCY;
 use crate::entries::slice::EQUATIONS;
+use crate::entries::slice::FLOATS;
 use crate::entries::slice::GEOMETRY;
 use crate::entries::slice::INVERSES;
 use crate::entries::slice::PLACES;
 use crate::entries::slice::PRESSURE;
 use crate::entries::slice::RESPONSES;
+use crate::entries::slice::SLICES;
 use crate::entries::slice::STARTS;
 use crate::entries::slice::VELOCITY;
 use crate::entries::slice::WALLS;
 use crate::entries::slice::WEIGHTS;
+use crate::entries::slice::WHOLES;
 use crate::entries::slice::float;
 use crate::entries::slice::whole;
 use mesh::Answer;
+use mesh::Counts;
 
 const KIND: usize = 21;
 
-pub fn call(case: Case, gradient: &mut [f64], out: &mut [f64]) -> Answer {
-    let n = case.lengths;
-    let m = case.numbers;
-    let w = case.whole;
-    let x = case.floats;
+pub fn call(
+    counts: Counts,
+    records: usize,
+    n: &[usize; SLICES],
+    m: &[u64; SLICES],
+    w: &[usize; WHOLES],
+    x: &[f64; FLOATS],
+    gradient: &mut [f64],
+    out: &mut [f64],
+) -> Answer {
     simple::rhie_chow_predicted_flux(
-        case.counts,
-        whole(&w, &n, ADJACENCY),
-        float(&x, &n, GEOMETRY),
-        float(&x, &n, PLACES),
+        counts,
+        whole(w, n, ADJACENCY),
+        float(x, n, GEOMETRY),
+        float(x, n, PLACES),
         m[STARTS],
-        case.records,
-        whole(&w, &n, STARTS),
-        whole(&w, &n, EQUATIONS),
-        float(&x, &n, WEIGHTS),
-        float(&x, &n, INVERSES),
+        records,
+        whole(w, n, STARTS),
+        whole(w, n, EQUATIONS),
+        float(x, n, WEIGHTS),
+        float(x, n, INVERSES),
         m[VELOCITY],
-        float(&x, &n, VELOCITY),
+        float(x, n, VELOCITY),
         m[PRESSURE],
-        float(&x, &n, PRESSURE),
+        float(x, n, PRESSURE),
         m[RESPONSES],
-        float(&x, &n, RESPONSES),
+        float(x, n, RESPONSES),
         m[WALLS],
-        float(&x, &n, WALLS),
+        float(x, n, WALLS),
         gradient,
         out,
     )

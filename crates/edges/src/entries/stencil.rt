@@ -1,6 +1,5 @@
 // `numerics::least_squares_stencil`: 1 to 8 and 10, and 1 within arithmetic.
 use crate::entries::NEAR;
-use crate::entries::case::Case;
 use crate::entries::change;
 use crate::entries::output;
 use crate::entries::output::FILL;
@@ -10,11 +9,14 @@ use crate::entries::slice::BORDERING;
 use crate::entries::slice::CODES;
 use crate::entries::slice::EQUATIONS;
 use crate::entries::slice::FACING;
+use crate::entries::slice::FLOATS;
 use crate::entries::slice::GEOMETRY;
 use crate::entries::slice::HEADS;
 use crate::entries::slice::PLACES;
+use crate::entries::slice::SLICES;
 use crate::entries::slice::VALUES;
 use crate::entries::slice::WEIGHTS;
+use crate::entries::slice::WHOLES;
 use crate::entries::slice::float;
 use crate::entries::slice::float_part;
 use crate::entries::slice::part;
@@ -114,23 +116,26 @@ fn call(
     tell(answer, &starts, &equations, i, &weights, j, &inverses);
 }
 
-pub fn show(case: Case) {
-    let n = case.lengths;
-    let m = case.numbers;
-    let w = case.whole;
-    let x = case.floats;
+pub fn show(
+    counts: Counts,
+    records: usize,
+    n: &[usize; SLICES],
+    m: &[u64; SLICES],
+    w: &[usize; WHOLES],
+    x: &[f64; FLOATS],
+) {
     call(
-        case.counts,
-        whole(&w, &n, ADJACENCY),
-        float(&x, &n, GEOMETRY),
-        whole(&w, &n, HEADS),
-        float(&x, &n, PLACES),
-        whole(&w, &n, FACING),
-        whole(&w, &n, BORDERING),
+        counts,
+        whole(w, n, ADJACENCY),
+        float(x, n, GEOMETRY),
+        whole(w, n, HEADS),
+        float(x, n, PLACES),
+        whole(w, n, FACING),
+        whole(w, n, BORDERING),
         m[CODES],
-        whole(&w, &n, CODES),
-        float(&x, &n, VALUES),
-        case.records,
+        whole(w, n, CODES),
+        float(x, n, VALUES),
+        records,
         n[EQUATIONS],
         n[WEIGHTS],
     );

@@ -1,26 +1,31 @@
 // `simple::correct_cell_velocity_from_gradient`: 1, 2, 3 and 11.
-use crate::entries::case::Case;
 use crate::entries::change;
+use crate::entries::slice::FLOATS;
 use crate::entries::slice::GRADIENT;
 use crate::entries::slice::RESPONSES;
+use crate::entries::slice::SLICES;
 use crate::entries::slice::VELOCITY;
 use crate::entries::slice::float;
 use mesh::Answer;
+use mesh::Counts;
 
 const KIND: usize = 23;
 
-pub fn call(case: Case, out: &mut [f64]) -> Answer {
-    let n = case.lengths;
-    let m = case.numbers;
-    let x = case.floats;
+pub fn call(
+    counts: Counts,
+    n: &[usize; SLICES],
+    m: &[u64; SLICES],
+    x: &[f64; FLOATS],
+    out: &mut [f64],
+) -> Answer {
     simple::correct_cell_velocity_from_gradient(
-        case.counts,
+        counts,
         m[VELOCITY],
-        float(&x, &n, VELOCITY),
+        float(x, n, VELOCITY),
         m[RESPONSES],
-        float(&x, &n, RESPONSES),
+        float(x, n, RESPONSES),
         m[GRADIENT],
-        float(&x, &n, GRADIENT),
+        float(x, n, GRADIENT),
         out,
     )
 }

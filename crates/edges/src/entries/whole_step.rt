@@ -1,6 +1,5 @@
 // `step::step`: 1 to 10 and 12, and 1 within arithmetic.
 use crate::entries::NEAR;
-use crate::entries::case::Case;
 use crate::entries::change;
 use crate::entries::output;
 use crate::entries::output::FILL;
@@ -11,6 +10,7 @@ use crate::entries::slice::CODES;
 use crate::entries::slice::CORRECTION;
 use crate::entries::slice::EQUATIONS;
 use crate::entries::slice::FACING;
+use crate::entries::slice::FLOATS;
 use crate::entries::slice::GEOMETRY;
 use crate::entries::slice::HEADS;
 use crate::entries::slice::PLACES;
@@ -21,6 +21,7 @@ use crate::entries::slice::VALUES;
 use crate::entries::slice::VELOCITY;
 use crate::entries::slice::WALLS;
 use crate::entries::slice::WEIGHTS;
+use crate::entries::slice::WHOLES;
 use crate::entries::slice::float;
 use crate::entries::slice::float_part;
 use crate::entries::slice::part;
@@ -182,28 +183,31 @@ fn call(
     );
 }
 
-pub fn show(case: Case) {
-    let n = case.lengths;
-    let m = case.numbers;
-    let w = case.whole;
-    let x = case.floats;
+pub fn show(
+    counts: Counts,
+    records: usize,
+    n: &[usize; SLICES],
+    m: &[u64; SLICES],
+    w: &[usize; WHOLES],
+    x: &[f64; FLOATS],
+) {
     call(
-        case.counts,
-        whole(&w, &n, ADJACENCY),
-        float(&x, &n, GEOMETRY),
-        whole(&w, &n, HEADS),
-        float(&x, &n, PLACES),
-        whole(&w, &n, FACING),
-        whole(&w, &n, BORDERING),
-        whole(&w, &n, CODES),
-        float(&x, &n, VALUES),
-        case.records,
-        float(&x, &n, VELOCITY),
-        float(&x, &n, PRESSURE),
-        float(&x, &n, RESPONSES),
-        float(&x, &n, WALLS),
-        float(&x, &n, CORRECTION),
-        &m,
+        counts,
+        whole(w, n, ADJACENCY),
+        float(x, n, GEOMETRY),
+        whole(w, n, HEADS),
+        float(x, n, PLACES),
+        whole(w, n, FACING),
+        whole(w, n, BORDERING),
+        whole(w, n, CODES),
+        float(x, n, VALUES),
+        records,
+        float(x, n, VELOCITY),
+        float(x, n, PRESSURE),
+        float(x, n, RESPONSES),
+        float(x, n, WALLS),
+        float(x, n, CORRECTION),
+        m,
         n[EQUATIONS],
         n[WEIGHTS],
     );

@@ -11,8 +11,11 @@ fill-requires c κs = search needs
 output-of-requires : tie.Need-output-of-requires
 output-of-requires c κs = search needs
 
-length-requires : tie.Need-length-requires
-length-requires c κs = search needs
+mul-k : tie.Need-mul-k
+mul-k c = search needs
+
+element-copy-out-k : tie.Need-element-copy-out-k
+element-copy-out-k c = search needs
 
 returns : tie.Need-returns
 returns c = search needs
@@ -35,7 +38,8 @@ show-spec =
     (tie.spec
     fill-requires
     output-of-requires
-    length-requires
+    mul-k
+    element-copy-out-k
     returns
     array-borrow-prefix-out
     slice-aggregate-show-call

@@ -9,6 +9,7 @@ use crate::entry::{Entry, Part, Part::*};
 use crate::lent::{Counts, Lent, SliceMut, Slices};
 use crate::makers;
 use std::fmt::Write;
+use Change::{Dimension, Float, Length, Nothing, Number, Records, Whole};
 
 const COUNTS: Counts = Counts {
     mesh: 7,
@@ -116,8 +117,6 @@ enum Change {
     Whole(Part, usize, usize),
     Float(Part, usize, f64),
 }
-
-use Change::{Dimension, Float, Length, Nothing, Number, Records, Whole};
 
 type Case = (&'static str, Change);
 

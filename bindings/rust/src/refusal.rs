@@ -1,0 +1,118 @@
+//! What the engine answers where it does not accept.
+
+use std::error::Error;
+use std::fmt;
+
+/// Why a call was refused. The numbers are those of the engine's own list.
+#[derive(Clone, Copy, Debug, PartialEq, Eq, Hash)]
+#[non_exhaustive]
+pub enum RefusalKind {
+    /// 1: no cell; over 65,535 cells, faces, chain entries or equation records; or too little room for a
+    /// stencil's equations.
+    Size,
+    /// 2: a slice's length differs from its count, as of a field with too few values.
+    Length,
+    /// 3: a field, the conditions or a stencil belong to another mesh.
+    MeshMismatch,
+    /// 4: a face's owner or neighbour names no cell, its neighbour is its owner, or its condition code is
+    /// unknown.
+    BadFace,
+    /// 5: a cell's chain of faces, neighbours or equations is broken.
+    BrokenChain,
+    /// 6: a link stands on a face with two cells, or its peer is itself, missing, or not linked back.
+    BadLink,
+    /// 7: the centres of a face's two cells, or of a face and its cell, are too near to each other.
+    DegenerateDistance,
+    /// 8: a cell's equations do not fix its gradient.
+    SingularLeastSquaresStencil,
+    /// 9: a face's coefficient is not finite or not above 0, or a flux, an outflow or a metric is not finite.
+    InvalidPressureFaceCoefficient,
+    /// 10: a face with one cell and no link has no condition.
+    MissingBoundaryCondition,
+    /// 11: a cell's momentum diagonal or response is not finite or not above 0, or its velocity is not finite.
+    InvalidMomentumDiagonal,
+    /// 12: a cell's volume is not finite or not above 0.
+    InvalidCellMeasure,
+    /// A number that these bindings do not know.
+    Other(u64),
+}
+
+/// The kinds 1 to 12, in order.
+const KINDS: [RefusalKind; 12] = [
+    RefusalKind::Size,
+    RefusalKind::Length,
+    RefusalKind::MeshMismatch,
+    RefusalKind::BadFace,
+    RefusalKind::BrokenChain,
+    RefusalKind::BadLink,
+    RefusalKind::DegenerateDistance,
+    RefusalKind::SingularLeastSquaresStencil,
+    RefusalKind::InvalidPressureFaceCoefficient,
+    RefusalKind::MissingBoundaryCondition,
+    RefusalKind::InvalidMomentumDiagonal,
+    RefusalKind::InvalidCellMeasure,
+];
+
+impl RefusalKind {
+    /// The kind that a number stands for.
+    pub fn from_number(number: u64) -> Self {
+        let place = usize::try_from(number).ok().and_then(|n| n.checked_sub(1));
+        let kind = place.and_then(|place| KINDS.get(place));
+        kind.copied().unwrap_or(Self::Other(number))
+    }
+
+    /// The number of the kind.
+    pub fn number(self) -> u64 {
+        match self {
+            Self::Other(number) => number,
+            kind => {
+                let place = KINDS.iter().position(|&other| other == kind);
+                place.map_or(0, |place| place as u64 + 1)
+            }
+        }
+    }
+}
+
+/// A call that the engine refused: why, and at which face or cell. What a call hands out is then dropped.
+#[derive(Clone, Copy, Debug, PartialEq, Eq, Hash)]
+pub struct Refusal {
+    /// Why.
+    pub kind: RefusalKind,
+    /// The face or cell, as the kind says; 0 where none is named.
+    pub index: usize,
+}
+
+impl Refusal {
+    /// The refusal of a number and an index.
+    pub fn new(number: u64, index: usize) -> Self {
+        Self {
+            kind: RefusalKind::from_number(number),
+            index,
+        }
+    }
+}
+
+impl fmt::Display for Refusal {
+    fn fmt(&self, f: &mut fmt::Formatter<'_>) -> fmt::Result {
+        let index = self.index;
+        write!(f, "refusal {}: ", self.kind.number())?;
+        match self.kind {
+            RefusalKind::Size => f.write_str("the mesh has no cell, over 65,535 cells, faces, chain entries or equation records, or there is too little room for the stencil's equations"),
+            RefusalKind::Length => f.write_str("a field or another slice has more or fewer values than the mesh asks for"),
+            RefusalKind::MeshMismatch => f.write_str("a field, the conditions or the stencil belong to another mesh"),
+            RefusalKind::BadFace => write!(f, "face {index} names a cell that is not there, has its owner as neighbour, or has an unknown condition code"),
+            RefusalKind::BrokenChain => write!(f, "cell {index} has a broken chain of faces, neighbours or equations"),
+            RefusalKind::BadLink => write!(f, "face {index} has a link but two cells, or is linked to itself, to a missing face or to one that is not linked back"),
+            RefusalKind::DegenerateDistance => write!(f, "face {index} has centres too near to each other, of its two cells or of itself and its cell"),
+            RefusalKind::SingularLeastSquaresStencil => write!(f, "cell {index} has too few equations in different directions to fix a gradient"),
+            RefusalKind::InvalidPressureFaceCoefficient if index == 0 => f.write_str("face 0 has a coefficient that is not finite or not above 0 or a flux that is not finite, or an outflow or a metric is not finite"),
+            RefusalKind::InvalidPressureFaceCoefficient => write!(f, "face {index} has a coefficient that is not finite or not above 0, or a flux that is not finite"),
+            RefusalKind::MissingBoundaryCondition => write!(f, "face {index} has one cell and neither a link nor a condition"),
+            RefusalKind::InvalidMomentumDiagonal => write!(f, "cell {index} has a momentum diagonal or response that is not finite or not above 0, or a velocity that is not finite"),
+            RefusalKind::InvalidCellMeasure => write!(f, "cell {index} has a volume that is not finite or not above 0"),
+            RefusalKind::Other(_) => write!(f, "a kind that these bindings do not know, at index {index}"),
+        }
+    }
+}
+
+impl Error for Refusal {}

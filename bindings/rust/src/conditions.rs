@@ -104,16 +104,18 @@ impl Conditions {
 
     /// The condition of a face, where the face is there.
     pub fn condition(&self, face: usize) -> Option<Condition> {
-        Some(match *self.codes.get(2 * face)? {
+        self.check(face).ok()?;
+        Some(match self.codes[2 * face] {
             0 => Condition::Absent,
-            1 => Condition::FixedValue(*self.values.get(4 * face)?),
+            1 => Condition::FixedValue(self.values[4 * face]),
             _ => Condition::ZeroGradient,
         })
     }
 
     /// The face that a face is linked to, where it has a link.
     pub fn peer(&self, face: usize) -> Option<usize> {
-        self.codes.get(2 * face + 1)?.checked_sub(1)
+        self.check(face).ok()?;
+        self.codes[2 * face + 1].checked_sub(1)
     }
 
     /// The number of the mesh they belong to.

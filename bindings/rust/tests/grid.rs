@@ -1,8 +1,8 @@
 //! Meshes from points: grids of squares and of cubes, even and distorted.
 
 use juvandeer::{
-    BuildError, CellField, Condition, Conditions, Dimension, FaceField, Mesh, StepInput, Vec3,
-    VectorField,
+    BuildError, CellField, Condition, Conditions, Dimension, FaceField, Mesh, Refusal, StepInput,
+    Vec3, VectorField,
 };
 
 /// Points, faces, owners and neighbours in the way of OpenFOAM.
@@ -275,66 +275,72 @@ fn the_order_of_faces_can_be_given() {
     ));
 }
 
-/// Room for the second ring: strips of squares, whose cells' faces do not fix a gradient.
+/// Strips of squares under zero gradients, whose cells take their second rings and then their normals: they
+/// fill the room to its last record.
 #[test]
 fn there_is_room_for_every_stencil() {
-    for counts in [[1, 1, 1], [7, 1, 1], [3, 3, 1]] {
+    for counts in [[2, 1, 1], [7, 1, 1], [3, 3, 1]] {
         let mesh = grid(Dimension::Two, counts).build().unwrap();
+        let room = mesh.stencil_room();
         for condition in [Condition::ZeroGradient, Condition::FixedValue(1.0)] {
             let conditions = Conditions::uniform(&mesh, condition);
-            let stencil = mesh.least_squares_stencil(&conditions).unwrap();
-            assert_eq!(stencil.records(), mesh.stencil_room());
+            assert_eq!(
+                mesh.least_squares_stencil(&conditions).unwrap().records(),
+                room
+            );
+        }
+        if counts[1] == 1 {
+            let conditions = Conditions::uniform(&mesh, Condition::ZeroGradient);
+            let stencil = mesh.least_squares_stencil_in(&conditions, room - 1);
+            assert_eq!(stencil.unwrap_err(), Refusal::new(1, 0));
         }
     }
 }
 
+/// The error of a grid of two cubes after a change.
+fn error(change: fn(&mut Draft)) -> BuildError {
+    let mut draft = grid(Dimension::Three, [2, 1, 1]);
+    change(&mut draft);
+    draft.build().unwrap_err()
+}
+
 #[test]
-fn mistakes_are_told() {
-    let good = grid(Dimension::Three, [2, 1, 1]);
-    let error = |change: fn(&mut Draft)| {
-        let mut draft = good.clone();
-        change(&mut draft);
-        draft.build().unwrap_err()
-    };
-    let points = good.points.len();
+fn wrong_indices_and_counts_are_told() {
     let missing = BuildError::MissingPoint {
         face: 3,
         point: 99,
-        points,
+        points: 12,
     };
     assert_eq!(error(|d| d.faces[3][0] = 99), missing);
     assert_eq!(
-        error(|d| d.faces[2].clear()),
-        BuildError::FacePoints { face: 2, found: 0 }
+        missing.to_string(),
+        "face 3 names point 99, and there are 12 points, from 0"
     );
+    let empty = BuildError::FacePoints { face: 2, found: 0 };
+    assert_eq!(error(|d| d.faces[2].clear()), empty);
     assert_eq!(error(|d| d.owners[2] = 7), BuildError::NoFace { cell: 2 });
-    assert_eq!(
-        error(|d| d.owners[2] = usize::MAX),
-        BuildError::NoFace { cell: 2 }
-    );
-    assert_eq!(
-        error(|d| d.neighbours[0] = 0),
-        BuildError::NeighbourIsOwner { face: 0 }
-    );
-    assert_eq!(
-        error(|d| d.points[4][1] = f64::NAN),
-        BuildError::BadPoint { point: 4 }
-    );
-    assert_eq!(
-        error(|d| d.faces[1] = vec![0, 0, 0]),
-        BuildError::NoArea { face: 1 }
-    );
+    let far = error(|d| d.owners[2] = usize::MAX);
+    assert_eq!(far, BuildError::NoFace { cell: 2 });
+    let own = error(|d| d.neighbours[0] = 0);
+    assert_eq!(own, BuildError::NeighbourIsOwner { face: 0 });
+    let few = error(|d| d.owners.truncate(3));
+    assert!(matches!(few, BuildError::Count { list: "owners", .. }));
+    let many = error(|d| d.neighbours = vec![1; 99]);
     assert!(matches!(
-        error(|d| d.owners.truncate(3)),
-        BuildError::Count { list: "owners", .. }
-    ));
-    assert!(matches!(
-        error(|d| d.neighbours = vec![1; 99]),
+        many,
         BuildError::Count {
             list: "neighbours",
             ..
         }
     ));
+}
+
+#[test]
+fn wrong_geometry_is_told() {
+    let not_finite = error(|d| d.points[4][1] = f64::NAN);
+    assert_eq!(not_finite, BuildError::BadPoint { point: 4 });
+    let flat = error(|d| d.faces[1] = vec![0, 0, 0]);
+    assert_eq!(flat, BuildError::NoArea { face: 1 });
     let turned = error(|d| d.faces.iter_mut().for_each(|face| face.reverse()));
     assert_eq!(
         turned,
@@ -347,7 +353,10 @@ fn mistakes_are_told() {
         turned.to_string(),
         "cell 0 has volume -1: a face is missing, or its points turn the wrong way"
     );
-    let mut flat = grid(Dimension::Two, [1, 1, 1]);
-    flat.points[0][2] = 1.0;
-    assert_eq!(flat.build().unwrap_err(), BuildError::BadPoint { point: 0 });
+    let mut raised = grid(Dimension::Two, [1, 1, 1]);
+    raised.points[0][2] = 1.0;
+    assert_eq!(
+        raised.build().unwrap_err(),
+        BuildError::BadPoint { point: 0 }
+    );
 }

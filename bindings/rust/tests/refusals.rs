@@ -59,67 +59,44 @@ fn length_2() {
 fn mesh_mismatch_3() {
     let (a, b) = (base().made(), base().made());
     let mesh = &a.mesh;
-    let predict = |stencil, velocity, pressure, responses, walls| {
-        mesh.rhie_chow_predicted_flux(stencil, velocity, pressure, responses, walls)
-    };
+    let boundary = |c, r| mesh.pressure_face_coefficients_with_boundary(c, r);
+    let velocity = |v, r, g| mesh.correct_cell_velocity_from_gradient(v, r, g);
     let answers = [
         refused(mesh.least_squares_stencil(&b.conditions)),
         refused(mesh.least_squares_gradient(&b.stencil, &a.pressure)),
         refused(mesh.least_squares_gradient(&a.stencil, &b.pressure)),
         refused(mesh.pressure_face_coefficients(&b.responses)),
-        refused(mesh.pressure_face_coefficients_with_boundary(&b.conditions, &a.responses)),
-        refused(mesh.pressure_face_coefficients_with_boundary(&a.conditions, &b.responses)),
-        refused(predict(
-            &b.stencil,
-            &a.velocity,
-            &a.pressure,
-            &a.responses,
-            &a.walls,
-        )),
-        refused(predict(
-            &a.stencil,
-            &b.velocity,
-            &a.pressure,
-            &a.responses,
-            &a.walls,
-        )),
-        refused(predict(
-            &a.stencil,
-            &a.velocity,
-            &b.pressure,
-            &a.responses,
-            &a.walls,
-        )),
-        refused(predict(
-            &a.stencil,
-            &a.velocity,
-            &a.pressure,
-            &b.responses,
-            &a.walls,
-        )),
-        refused(predict(
-            &a.stencil,
-            &a.velocity,
-            &a.pressure,
-            &a.responses,
-            &b.walls,
-        )),
-        refused(mesh.correct_cell_velocity_from_gradient(&b.velocity, &a.responses, &a.gradient)),
-        refused(mesh.correct_cell_velocity_from_gradient(&a.velocity, &b.responses, &a.gradient)),
-        refused(mesh.correct_cell_velocity_from_gradient(&a.velocity, &a.responses, &b.gradient)),
+        refused(boundary(&b.conditions, &a.responses)),
+        refused(boundary(&a.conditions, &b.responses)),
+        refused(velocity(&b.velocity, &a.responses, &a.gradient)),
+        refused(velocity(&a.velocity, &b.responses, &a.gradient)),
+        refused(velocity(&a.velocity, &a.responses, &b.gradient)),
         refused(mesh.integrated_divergence(&b.flux)),
         refused(mesh.continuity_metrics(&b.flux)),
     ];
-    assert_eq!(answers, [(3, 0); 16]);
+    assert_eq!(answers, [(3, 0); 11]);
+}
+
+#[test]
+fn mesh_mismatch_3_of_the_prediction() {
+    let (a, b) = (base().made(), base().made());
+    let predict = |s, v, p, r, w| a.mesh.rhie_chow_predicted_flux(s, v, p, r, w);
+    let (s, v, p, r, w) = (&a.stencil, &a.velocity, &a.pressure, &a.responses, &a.walls);
+    let answers = [
+        refused(predict(&b.stencil, v, p, r, w)),
+        refused(predict(s, &b.velocity, p, r, w)),
+        refused(predict(s, v, &b.pressure, r, w)),
+        refused(predict(s, v, p, &b.responses, w)),
+        refused(predict(s, v, p, r, &b.walls)),
+    ];
+    assert_eq!(answers, [(3, 0); 5]);
 }
 
 #[test]
 fn mesh_mismatch_3_of_correction_and_step() {
     let (a, b) = (base().made(), base().made());
-    let correct = |conditions, predicted, coefficients, correction| {
-        let mesh = &a.mesh;
-        mesh.correct_face_flux_with_boundary(conditions, predicted, coefficients, correction)
-    };
+    let correct = |c, p, k, x| a.mesh.correct_face_flux_with_boundary(c, p, k, x);
+    let (c, p, k, x) = (&a.conditions, &a.predicted, &a.coefficients, &a.correction);
     let mut inputs = [a.step_input(); 6];
     inputs[0].conditions = &b.conditions;
     inputs[1].velocity = &b.velocity;
@@ -131,30 +108,10 @@ fn mesh_mismatch_3_of_correction_and_step() {
         assert_eq!(refused(a.mesh.step(input)), (3, 0));
     }
     let answers = [
-        refused(correct(
-            &b.conditions,
-            &a.predicted,
-            &a.coefficients,
-            &a.correction,
-        )),
-        refused(correct(
-            &a.conditions,
-            &b.predicted,
-            &a.coefficients,
-            &a.correction,
-        )),
-        refused(correct(
-            &a.conditions,
-            &a.predicted,
-            &b.coefficients,
-            &a.correction,
-        )),
-        refused(correct(
-            &a.conditions,
-            &a.predicted,
-            &a.coefficients,
-            &b.correction,
-        )),
+        refused(correct(&b.conditions, p, k, x)),
+        refused(correct(c, &b.predicted, k, x)),
+        refused(correct(c, p, &b.coefficients, x)),
+        refused(correct(c, p, k, &b.correction)),
     ];
     assert_eq!(answers, [(3, 0); 4]);
 }

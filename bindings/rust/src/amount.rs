@@ -95,8 +95,8 @@ impl Amount {
         }
     }
 
-    /// Rounded to so many significant digits, at least one, with a power of ten, as `2.2204e-16`. A tie goes away
-    /// from zero.
+    /// Rounded to so many significant digits, from 1 to 1500, with a power of ten, as `2.2204e-16`. A tie goes
+    /// away from zero. No sum of floats has more digits.
     pub fn scientific(&self, digits: usize) -> String {
         let (whole, fraction) = self.digits();
         let all = whole.clone() + &fraction;
@@ -104,7 +104,7 @@ impl Amount {
             return "0".to_string();
         };
         let mut exponent = whole.len() as i64 - 1 - first as i64;
-        let (mut kept, carried) = rounded(&all.as_bytes()[first..], digits.max(1));
+        let (mut kept, carried) = rounded(&all.as_bytes()[first..], digits.clamp(1, 1500));
         exponent += i64::from(carried);
         let sign = if self.whole.is_negative() { "-" } else { "" };
         let tail = kept.split_off(1);

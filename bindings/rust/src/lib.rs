@@ -37,8 +37,8 @@
 //! # Ok::<(), Box<dyn std::error::Error>>(())
 //! ```
 //!
-//! The library keeps the default floating-point environment and so has its caller to: rounding to nearest, no
-//! flush to zero. Its proofs say nothing of this crate: that the two fit together is tested.
+//! A caller keeps the default floating-point environment: rounding to nearest, no flush to zero. The library's
+//! proofs say nothing of this crate: that the two fit together is tested.
 
 #![deny(unsafe_code)]
 #![deny(missing_docs)]

@@ -73,6 +73,10 @@ fn fewer_digits_are_rounded() {
     assert_eq!(amount(2f64.powi(-52)).scientific(6), "2.22045e-16");
     assert_eq!(amount(7.0).scientific(0), "7e0");
     assert_eq!(Amount::zero().scientific(6), "0");
+    assert_eq!(
+        amount(7.0).scientific(usize::MAX).len(),
+        "7.e0".len() + 1499
+    );
 }
 
 /// One cell with a face for each flux.

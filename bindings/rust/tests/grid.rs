@@ -297,6 +297,14 @@ fn there_is_room_for_every_stencil() {
     }
 }
 
+/// More cells in rings than the engine takes records: the room is the most that it takes, and suffices.
+#[test]
+fn a_large_grid_has_room() {
+    let mesh = grid(Dimension::Two, [100, 100, 1]).build().unwrap();
+    assert_eq!(mesh.stencil_room(), 65_535);
+    check_step(&mesh, &mut Numbers(2));
+}
+
 /// The error of a grid of two cubes after a change.
 fn error(change: fn(&mut Draft)) -> BuildError {
     let mut draft = grid(Dimension::Three, [2, 1, 1]);

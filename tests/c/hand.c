@@ -1,0 +1,102 @@
+/* Calls whose answers follow from document 01, and the roots of the stored list. */
+#include "call.h"
+#include "judge.h"
+#include "report.h"
+
+#include <inttypes.h>
+#include <stdio.h>
+#include <string.h>
+
+static uint64_t bits_of(double x)
+{
+    uint64_t bits;
+    if (x != x)
+        return UINT64_C(0x7ff8000000000000);
+    memcpy(&bits, &x, sizeof bits);
+    return bits;
+}
+
+void judge_root(char *line)
+{
+    uint64_t of, expected, root;
+    double x;
+    char more;
+    if (sscanf(line, "%" SCNx64 " %" SCNx64 "%c", &of, &expected, &more) != 2)
+        fail("no line of a root: %s", line);
+    memcpy(&x, &of, sizeof x);
+    root = bits_of(juvandeer_sqrt(x));
+    if (root != expected)
+        fail("sqrt of %016" PRIx64 " is %016" PRIx64 ", expected %016" PRIx64, of, root, expected);
+    passed++;
+}
+
+/* One count is one more than the mesh has; what the diagonal, the outflow and the stencil answer tells
+ * which count of the library it is. In three dimensions a flat stencil is singular. */
+static const struct {
+    struct juvandeer_counts more;
+    uint64_t answers[3];
+} one_more[] = {
+    {{.mesh = 1}, {0, 3, 3}},
+    {{.dimension = 1}, {0, 0, 8}},
+    {{.cells = 1}, {2, 2, 2}},
+    {{.faces = 1}, {0, 2, 2}},
+    {{.face_records = 1}, {0, 0, 2}},
+    {{.neighbour_records = 1}, {0, 0, 2}}
+};
+
+static void add(struct juvandeer_counts *counts, const struct juvandeer_counts *more)
+{
+    counts->mesh += more->mesh;
+    counts->dimension += more->dimension;
+    counts->cells += more->cells;
+    counts->faces += more->faces;
+    counts->face_records += more->face_records;
+    counts->neighbour_records += more->neighbour_records;
+}
+
+static const struct entry *named(const char *name)
+{
+    const struct entry *entry = entries;
+    while (strcmp(entry->name, name))
+        entry++;
+    return entry;
+}
+
+void judge_counts(void)
+{
+    static const char *const names[3] = {
+        "momentum_inverse_diagonal", "integrated_divergence", "least_squares_stencil"
+    };
+    static struct call call;
+    for (size_t i = 0; i < sizeof one_more / sizeof *one_more; i++)
+        for (size_t k = 0; k < 3; k++) {
+            const struct entry *entry = named(names[k]);
+            lend(&call, entry);
+            add(&call.counts, &one_more[i].more);
+            uint64_t answer = entry->make(&call);
+            if (answer != one_more[i].answers[k])
+                fail("%s, count %zu one more: answer %" PRIu64 ", expected %" PRIu64, names[k], i,
+                    answer, one_more[i].answers[k]);
+            passed++;
+        }
+}
+
+/* One cell and no face: slices of length 0 without a pointer, lent and handed out. */
+void judge_null(void)
+{
+    const struct juvandeer_counts counts = {.mesh = 7, .dimension = 2, .cells = 1};
+    const double places[4] = {0.5, 0.5, 0.0, 1.0}, response = 0.5;
+    double out = 1.0;
+    size_t index = SIZE_MAX;
+    if (juvandeer_integrated_divergence(counts, NULL, 0, 7, NULL, 0, &out, 1, &index) || index)
+        fail("outflow without a face: refused");
+    if (bits_of(out))
+        fail("outflow without a face: %016" PRIx64 ", expected 0", bits_of(out));
+    passed++;
+    index = SIZE_MAX;
+    if (juvandeer_pressure_face_coefficients(
+            counts, NULL, 0, NULL, 0, places, 4, 7, &response, 1, NULL, 0, &index)
+        || index)
+        fail("coefficients without a face: refused");
+    passed++;
+}

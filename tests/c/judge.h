@@ -1,0 +1,21 @@
+/* Calls held against stored lines, and calls whose answers stand in document 01. */
+#ifndef JUDGE_H
+#define JUDGE_H
+
+/* Makes the call that a line of crates/edges/stdout names, and holds its answer and outputs to it. */
+void judge_line(char *line);
+
+/* Every function of the library was called by a line: accepted, refused by a check, and refused by
+ * arithmetic where it can be. */
+void judge_coverage(void);
+
+/* A line of crates/roots/stdin: a number and its root. */
+void judge_root(char *line);
+
+void judge_counts(void);
+
+void judge_null(void);
+
+void judge_environment(void);
+
+#endif

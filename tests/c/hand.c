@@ -33,15 +33,16 @@ void judge_root(char *line)
 /* One count is one more than the mesh has; what the diagonal, the outflow and the stencil answer tells
  * which count of the library it is. In three dimensions a flat stencil is singular. */
 static const struct {
+    const char *name;
     struct juvandeer_counts more;
     uint64_t answers[3];
 } one_more[] = {
-    {{.mesh = 1}, {0, 3, 3}},
-    {{.dimension = 1}, {0, 0, 8}},
-    {{.cells = 1}, {2, 2, 2}},
-    {{.faces = 1}, {0, 2, 2}},
-    {{.face_records = 1}, {0, 0, 2}},
-    {{.neighbour_records = 1}, {0, 0, 2}}
+    {"another mesh", {.mesh = 1}, {0, 3, 3}},
+    {"one dimension more", {.dimension = 1}, {0, 0, 8}},
+    {"one cell more", {.cells = 1}, {2, 2, 2}},
+    {"one face more", {.faces = 1}, {0, 2, 2}},
+    {"one face record more", {.face_records = 1}, {0, 0, 2}},
+    {"one neighbour record more", {.neighbour_records = 1}, {0, 0, 2}}
 };
 
 static void add(struct juvandeer_counts *counts, const struct juvandeer_counts *more)
@@ -62,6 +63,14 @@ static const struct entry *named(const char *name)
     return entry;
 }
 
+static void hold_answer(const struct entry *entry, struct call *call, uint64_t expected, const char *of)
+{
+    uint64_t answer = entry->make(call);
+    if (answer != expected)
+        fail("%s, %s: answer %" PRIu64 ", expected %" PRIu64, entry->name, of, answer, expected);
+    passed++;
+}
+
 void judge_counts(void)
 {
     static const char *const names[3] = {
@@ -73,12 +82,25 @@ void judge_counts(void)
             const struct entry *entry = named(names[k]);
             lend(&call, entry);
             add(&call.counts, &one_more[i].more);
-            uint64_t answer = entry->make(&call);
-            if (answer != one_more[i].answers[k])
-                fail("%s, count %zu one more: answer %" PRIu64 ", expected %" PRIu64, names[k], i,
-                    answer, one_more[i].answers[k]);
-            passed++;
+            hold_answer(entry, &call, one_more[i].answers[k], one_more[i].name);
         }
+}
+
+/* One record more of each kind, which no chain reaches, changes no answer. */
+void judge_room(void)
+{
+    static struct call call;
+    for (int e = 0; e < ENTRIES; e++) {
+        lend(&call, &entries[e]);
+        call.counts.face_records = 9;
+        call.counts.neighbour_records = 3;
+        call.records = 8;
+        call.length[FACING] = 18;
+        call.length[BORDERING] = 6;
+        call.length[EQUATIONS] = 16;
+        call.length[WEIGHTS] = 32;
+        hold_answer(&entries[e], &call, 0, "records that no chain reaches");
+    }
 }
 
 /* One cell and no face: slices of length 0 without a pointer, lent and handed out. */

@@ -1,12 +1,13 @@
 /* The base: the numbers that every entry accepts, those of crates/edges/src/entries/table.rt. Face 0
  * joins cells 0 and 1; faces 1 and 2, to the left and to the right, are linked; faces 3 and 4 are below
- * and above cell 0, faces 5 and 6 below and above cell 1. */
+ * and above cell 0, faces 5 and 6 below and above cell 1. The mesh's number is no count and no length, so
+ * that it cannot be taken for one. */
 #include "call.h"
 
 #include <string.h>
 
 static const struct juvandeer_counts counts = {
-    .mesh = 7, .dimension = 2, .cells = 2, .faces = 7, .face_records = 8, .neighbour_records = 2
+    .mesh = 70007, .dimension = 2, .cells = 2, .faces = 7, .face_records = 8, .neighbour_records = 2
 };
 
 static const size_t lengths[PARTS] = {

@@ -12,8 +12,8 @@
  * - The floating-point environment is the default: round to nearest, no flush to zero, no
  *   denormals-are-zero. juvandeer_environment_is_default() finds out.
  *
- * Everything else is tested: counts, lengths, mesh numbers, indices and chains may be anything. What
- * outputs hold before a call does not matter.
+ * Everything else is tested: counts, mesh numbers, indices and chains may be anything, and a slice may
+ * be longer or shorter than it is due. What outputs hold before a call does not matter.
  *
  * A mesh is lent as counts and slices. Faces and cells count from 0; records count from 1, and a next
  * record of 0 ends a chain.
@@ -37,7 +37,7 @@
  * conditions; starts, equations, weights and inverses are a stencil with room for `records` equations.
  *
  * A number that stands before slices is their mesh number and must be counts.mesh: `number` before
- * conditions or a flux, `stencil` before a stencil, `velocity` before velocities, and so on.
+ * conditions, a field or a flux, `stencil` before a stencil, `velocity` before velocities, and so on.
  */
 #ifndef JUVANDEER_H
 #define JUVANDEER_H

@@ -23,12 +23,12 @@ use Rattle.numerics.specs.Outflow.{facesOf}
 use Rattle.numerics.specs.Stencil.{stencilAnswer}
 use Rattle.balance.proofs.Closes.{balances}
 use Rattle.balance.specs.Balance.{Balanced}
-use Rattle.simple.specs.Boundary.{boundsOf, boundaryAnswer}
-use Rattle.simple.specs.Correction.{correctedFluxAt, correctionAnswer}
-use Rattle.simple.specs.Metrics.{metricsOf, metricsAnswer}
-use Rattle.simple.specs.Prediction.{predictionAnswer}
-use Rattle.simple.specs.Promise.{Boundary, Promise, boundaryOf}
-use Rattle.simple.proofs.Promised.{promised, withGiven, carried}
+use Rattle.predictor.specs.Boundary.{boundsOf, boundaryAnswer}
+use Rattle.corrector.specs.Correction.{correctedFluxAt, correctionAnswer}
+use Rattle.corrector.specs.Metrics.{metricsOf, metricsAnswer}
+use Rattle.predictor.specs.Prediction.{predictionAnswer}
+use Rattle.corrector.specs.Promise.{Boundary, Promise, boundaryOf}
+use Rattle.corrector.proofs.Promised.{promised, withGiven, carried}
 use Rattle.scheme.specs.Step.{Given, Lendable, gridOf, flowOf, predictedOf, coefficientsOf, correctingOf, fluxesOf, outflowsOf, spilled, endless, finiteAnswer, workAnswer}
 use Rattle.scheme.specs.Demand.{wallsOf, DemandThree}
 use Rattle.scheme.proofs.Fitting.{value-fits}

@@ -7,7 +7,7 @@ use Rattle.binary64.specs.Units.{exactTotal, units, count, totalCount}
 use Rattle.mesh.specs.Vector.{dot, difference}
 use Rattle.coupling.specs.Face.{distances, faceResponse, projected, positive, internalCoefficient, correctedFlux}
 use Rattle.numerics.specs.Outflow.{outflows, scatter, scatterFace, upTo, given}
-use Rattle.simple.specs.Correction.{wallFlux}
+use Rattle.corrector.specs.Correction.{wallFlux}
 use Rattle.scheme.specs.Examples.{Examples}
 
 pub examples : Examples

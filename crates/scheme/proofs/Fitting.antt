@@ -15,7 +15,7 @@ use Rattle.mesh.specs.declared.Condition.the-variants.{Absent, Fixed, ZeroGradi
 use Rattle.mesh.specs.declared.Outcome.{Outcome}
 use Rattle.mesh.specs.declared.Outcome.the-variants.{Value, Bad}
 use Rattle.coupling.specs.Face.{correctedFlux}
-use Rattle.simple.specs.Correction.{Correcting, wallFlux, correctedFluxAt}
+use Rattle.corrector.specs.Correction.{Correcting, wallFlux, correctedFluxAt}
 
 -- a value of the format, or a refusal
 abbrev Fits : Outcome → Type 0

@@ -19,12 +19,12 @@ use Rattle.numerics.specs.Outflow.{Flows, outflows}
 use Rattle.numerics.specs.Stencil.{stencilAnswer, stencilStarts, stencilEquations}
 use Rattle.numerics.proofs.Good.{lent-good}
 use Rattle.numerics.proofs.inner.stencil.Sound.{accepted-sound}
-use Rattle.simple.specs.Boundary.{Bounded, Begun, boundsOf, boundaryAnswer, boundaryCoefficients, coefficientAt}
-use Rattle.simple.specs.Correction.{Correcting, correcting, Correctable, correctedFluxAt, correctionAnswer, correctedFluxes}
-use Rattle.simple.specs.Coefficients.{coefficientAnswer, coefficients}
-use Rattle.simple.specs.Grid.{Grid, Coupled}
-use Rattle.simple.specs.Metrics.{metricsOf, metricsAnswer, metricsNumbers}
-use Rattle.simple.specs.Prediction.{Flow, flow, Flowing, predictedAt, predictionAnswer, predictedFluxes}
+use Rattle.predictor.specs.Boundary.{Bounded, Begun, boundsOf, boundaryAnswer, boundaryCoefficients, coefficientAt}
+use Rattle.corrector.specs.Correction.{Correcting, correcting, Correctable, correctedFluxAt, correctionAnswer, correctedFluxes}
+use Rattle.predictor.specs.Coefficients.{coefficientAnswer, coefficients}
+use Rattle.coupling.specs.Grid.{Grid, Coupled}
+use Rattle.corrector.specs.Metrics.{metricsOf, metricsAnswer, metricsNumbers}
+use Rattle.predictor.specs.Prediction.{Flow, flow, Flowing, predictedAt, predictionAnswer, predictedFluxes}
 use Rattle.scheme.specs.Step.{Given, Lendable, gridOf, stencilOf, gradientOf, flowOf, predictedOf, coefficientsOf, correctingOf, fluxesOf, outflowsOf, finiteAnswer, workAnswer}
 
 -- a correction asks nothing of the coefficients but how many they are

@@ -17,7 +17,7 @@ use Rattle.mesh.specs.declared.Answer.{Answer}
 use Rattle.mesh.specs.declared.Answer.the-variants.{Accepted}
 use Rattle.numerics.specs.Outflow.{facesOf}
 use Rattle.balance.specs.Balance.{Balanced}
-use Rattle.simple.specs.Promise.{Boundary, Promise}
+use Rattle.corrector.specs.Promise.{Boundary, Promise}
 use Rattle.scheme.specs.Step.{Given, coefficientsOf}
 
 -- the faces as 2 and 3 read them: the given flux is the wall flux, and the coefficient that of the step's coefficients with boundary

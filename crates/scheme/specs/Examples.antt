@@ -14,7 +14,7 @@ use Rattle.coupling.specs.Face.{pair, distances, internalCoefficient, corrected
 use Rattle.coupling.specs.declared.Span.{Span}
 use Rattle.numerics.specs.Outflow.{facesOf, terms, outflows}
 use Rattle.balance.specs.Balance.{bound}
-use Rattle.simple.specs.Correction.{wallFlux}
+use Rattle.corrector.specs.Correction.{wallFlux}
 
 abbrev pub float : ℕ → Float
 float b = ofBits binary64 b

@@ -17,11 +17,11 @@ use Rattle.numerics.specs.Checks.{Slices, slices, lentOf}
 use Rattle.numerics.specs.Gradient.{gradients}
 use Rattle.numerics.specs.Outflow.{outflows}
 use Rattle.numerics.specs.Stencil.{stencilAnswer, stencilStarts, stencilEquations, stencilWeights, stencilInverses}
-use Rattle.simple.specs.Boundary.{boundsOf, boundaryAnswer, boundaryCoefficients}
-use Rattle.simple.specs.Correction.{Correcting, correcting, correctionAnswer, correctedFluxes}
-use Rattle.simple.specs.Grid.{Grid, grid, Field, field}
-use Rattle.simple.specs.Metrics.{metricsOf, metricsAnswer}
-use Rattle.simple.specs.Prediction.{Flow, flow, predictionAnswer, predictedFluxes}
+use Rattle.predictor.specs.Boundary.{boundsOf, boundaryAnswer, boundaryCoefficients}
+use Rattle.corrector.specs.Correction.{Correcting, correcting, correctionAnswer, correctedFluxes}
+use Rattle.coupling.specs.Grid.{Grid, grid, Field, field}
+use Rattle.corrector.specs.Metrics.{metricsOf, metricsAnswer}
+use Rattle.predictor.specs.Prediction.{Flow, flow, predictionAnswer, predictedFluxes}
 
 -- what a step is lent: a mesh, one set of conditions and links, room for so many equations, and the fields
 pub record Given : Type 0 where

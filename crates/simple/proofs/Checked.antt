@@ -28,15 +28,15 @@ use Rattle.numerics.specs.Gradient.{Sloped}
 use Rattle.numerics.specs.Outflow.{Flows}
 use Rattle.numerics.proofs.Flows.{flows-by}
 use Rattle.numerics.proofs.Slopes.{slopes-by}
-use Rattle.simple.specs.Boundary.{Bounded, links, boundsOf, boundaryChecks, BoundaryChecked}
-use Rattle.simple.specs.Coefficients.{coefficientChecks}
+use Rattle.predictor.specs.Boundary.{Bounded, links, boundsOf, boundaryChecks, BoundaryChecked}
+use Rattle.predictor.specs.Coefficients.{coefficientChecks}
 use Rattle.simple.specs.Corrected.{Fields, correctionSizes, fieldNumbers, correctingBy, correctionChecks, CorrectionChecked}
-use Rattle.simple.specs.Correction.{Correctable}
-use Rattle.simple.specs.Diagonal.{diagonalChecks}
-use Rattle.simple.specs.Grid.{Grid, Field, Coupled, gridSizes, gridSized}
-use Rattle.simple.specs.Metrics.{metricsSizes, metricsChecks}
-use Rattle.simple.specs.Prediction.{Lent, sizesOf, flowSizes, flowSized, flowNumbers, predictionChecks}
-use Rattle.simple.specs.Velocity.{velocitySizes, velocityChecks}
+use Rattle.corrector.specs.Correction.{Correctable}
+use Rattle.corrector.specs.Diagonal.{diagonalChecks}
+use Rattle.coupling.specs.Grid.{Grid, Field, Coupled, gridSizes, gridSized}
+use Rattle.corrector.specs.Metrics.{metricsSizes, metricsChecks}
+use Rattle.predictor.specs.Prediction.{Lent, sizesOf, flowSizes, flowSized, flowNumbers, predictionChecks}
+use Rattle.corrector.specs.Velocity.{velocitySizes, velocityChecks}
 
 -- ---- one cell's number
 

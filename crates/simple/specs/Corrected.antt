@@ -15,10 +15,10 @@ use Rattle.mesh.specs.declared.Answer.{Answer}
 use Rattle.mesh.specs.declared.Answer.the-variants.{Accepted}
 use Rattle.mesh.specs.declared.Counts.{Counts}
 use Rattle.mesh.specs.declared.Found.{Found}
-use Rattle.simple.specs.Boundary.{links}
-use Rattle.simple.specs.Correction.{Correcting, correcting, correctionAnswer, correctedFluxes}
-use Rattle.simple.specs.Grid.{Field}
-use Rattle.simple.specs.Promise.{Promise, boundaryOf}
+use Rattle.predictor.specs.Boundary.{links}
+use Rattle.corrector.specs.Correction.{Correcting, correcting, correctionAnswer, correctedFluxes}
+use Rattle.coupling.specs.Grid.{Field}
+use Rattle.corrector.specs.Promise.{Promise, boundaryOf}
 
 -- the lent fields
 pub record Fields : Type 0 where

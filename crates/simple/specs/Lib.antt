@@ -1,11 +1,1 @@
-pub mod Grid
-pub mod Staged
-pub mod Diagonal
-pub mod Coefficients
-pub mod Boundary
-pub mod Prediction
-pub mod Correction
-pub mod Promise
 pub mod Corrected
-pub mod Velocity
-pub mod Metrics

@@ -11,18 +11,16 @@ ghost use Rattle.mesh.specs.Mesh.{conditions};
 ghost use Rattle.mesh.specs.Pass.{handedOut, unless};
 ghost use Rattle.mesh.specs.declared.chain.Form.the-variants.{Single};
 ghost use Rattle.numerics.specs.Checks.{slices};
-ghost use Rattle.simple.specs.Boundary.{LinksChecked, BoundaryChecked, BoundaryCall};
-ghost use Rattle.simple.specs.Coefficients.{coefficientChecks, coefficientAnswer, coefficients};
+ghost use Rattle.predictor.specs.Boundary.{LinksChecked, BoundaryChecked, BoundaryCall};
+ghost use Rattle.predictor.specs.Coefficients.{coefficientChecks, coefficientAnswer, coefficients};
 ghost use Rattle.simple.specs.Corrected.{fields, CorrectionChecked, CorrectionCall, Promised};
-ghost use Rattle.simple.specs.Diagonal.{diagonalChecks, inverseAnswer, inverses};
-ghost use Rattle.simple.specs.Grid.{grid, field, gridSized};
-ghost use Rattle.simple.specs.Metrics.{metricsChecks, MetricsCall};
-ghost use Rattle.simple.specs.Prediction.{lent, sizes, flowSized, predictionChecks, PredictionCall};
-ghost use Rattle.simple.specs.Velocity.{velocityChecks, velocityAnswer, correctedVelocities};
+ghost use Rattle.corrector.specs.Diagonal.{diagonalChecks, inverseAnswer, inverses};
+ghost use Rattle.coupling.specs.Grid.{grid, field, gridSized};
+ghost use Rattle.corrector.specs.Metrics.{metricsChecks, MetricsCall};
+ghost use Rattle.predictor.specs.Prediction.{lent, sizes, flowSized, predictionChecks, PredictionCall};
+ghost use Rattle.corrector.specs.Velocity.{velocityChecks, velocityAnswer, correctedVelocities};
 use mesh::Answer;
 use mesh::Counts;
-
-pub mod inner;
 
 // Check 2, of adjacency, geometry and places.
 fn grid_sized(counts: Counts, adjacency: &[usize], geometry: &[f64], places: &[f64]) -> bool
@@ -51,7 +49,7 @@ pub fn momentum_inverse_diagonal(counts: Counts, diagonal: &[f64], out: &mut [f6
 {
     let a = check_diagonal(counts, diagonal, out.len());
     match a {
-        Answer::Accepted => inner::diagonal::momentum_inverse_diagonal(diagonal, out),
+        Answer::Accepted => corrector::inner::diagonal::momentum_inverse_diagonal(diagonal, out),
         Answer::Refused(k, i) => Answer::Refused(k, i),
     }
 }
@@ -100,7 +98,7 @@ pub fn pressure_face_coefficients(
         out.len(),
     );
     match a {
-        Answer::Accepted => inner::coefficients::pressure_face_coefficients(
+        Answer::Accepted => predictor::inner::coefficients::pressure_face_coefficients(
             adjacency,
             geometry,
             places,
@@ -180,7 +178,7 @@ pub fn pressure_face_coefficients_with_boundary(
         out.len(),
     );
     match a {
-        Answer::Accepted => inner::boundary::pressure_face_coefficients_with_boundary(
+        Answer::Accepted => predictor::inner::boundary::pressure_face_coefficients_with_boundary(
             adjacency,
             geometry,
             places,
@@ -331,7 +329,7 @@ pub fn rhie_chow_predicted_flux(
     match a {
         Answer::Accepted => {
             let mut none = [0.0; 0];
-            inner::prediction::rhie_chow_predicted_flux(
+            predictor::inner::prediction::rhie_chow_predicted_flux(
                 adjacency,
                 geometry,
                 places,
@@ -421,7 +419,7 @@ pub fn correct_face_flux_with_boundary(
         out.len(),
     );
     match a {
-        Answer::Accepted => inner::correction::correct_face_flux(
+        Answer::Accepted => corrector::inner::correction::correct_face_flux(
             adjacency,
             codes,
             values,
@@ -479,7 +477,7 @@ pub fn correct_cell_velocity_from_gradient(
         out.len(),
     );
     match a {
-        Answer::Accepted => inner::velocity::correct_cell_velocity_from_gradient(
+        Answer::Accepted => corrector::inner::velocity::correct_cell_velocity_from_gradient(
             velocities,
             responses,
             gradients,
@@ -534,7 +532,7 @@ pub fn continuity_metrics(
         metrics.len(),
     );
     match a {
-        Answer::Accepted => inner::metrics::continuity_metrics(
+        Answer::Accepted => corrector::inner::metrics::continuity_metrics(
             adjacency,
             places,
             flux,

@@ -17,7 +17,7 @@ use Rattle.mesh.specs.declared.Answer.the-variants.{Accepted}
 use Rattle.mesh.specs.declared.Counts.{Counts}
 use Rattle.mesh.specs.declared.Found.{Found}
 use Rattle.numerics.specs.Checks.{lengths, stencilSized}
-use Rattle.simple.specs.Metrics.{metricsOf, metricsNumbers}
+use Rattle.corrector.specs.Metrics.{metricsOf, metricsNumbers}
 use Rattle.scheme.specs.Step.{Given, stencilOf, gradientOf, predictedOf, coefficientsOf, fluxesOf, outflowsOf, workAnswer}
 
 -- the outputs

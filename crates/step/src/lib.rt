@@ -2,7 +2,7 @@
 // call. A number that stands before a slice is the mesh number of that slice.
 ghost use mathlib.Core.Path.{_≡_};
 ghost use Rattle.mesh.specs.Mesh.{mesh, conditions};
-ghost use Rattle.simple.specs.Grid.{field};
+ghost use Rattle.coupling.specs.Grid.{field};
 ghost use Rattle.step.specs.Call.{handed, fieldsSized, outputsSized, StepChecked, StepCall};
 ghost use Rattle.scheme.specs.Demand.{Demanded};
 ghost use Rattle.scheme.specs.Step.{given};

@@ -10,11 +10,11 @@ ghost use Rattle.numerics.specs.Gradient.{gradients};
 ghost use Rattle.numerics.specs.Lent.{lent, Good};
 ghost use Rattle.numerics.specs.Outflow.{Flows, outflows};
 ghost use Rattle.numerics.specs.Stencil.{stencilAnswer, stencilStarts, stencilEquations, stencilWeights, stencilInverses};
-ghost use Rattle.simple.specs.Boundary.{bounds, Bounded, Begun, boundaryAnswer, boundaryCoefficients};
-ghost use Rattle.simple.specs.Correction.{correcting, Correctable, correctionAnswer, correctedFluxes};
-ghost use Rattle.simple.specs.Grid.{grid, Coupled};
-ghost use Rattle.simple.specs.Metrics.{metricsOf, metricsAnswer, metricsNumbers};
-ghost use Rattle.simple.specs.Prediction.{flow, Flowing, predictionAnswer, predictedFluxes};
+ghost use Rattle.predictor.specs.Boundary.{bounds, Bounded, Begun, boundaryAnswer, boundaryCoefficients};
+ghost use Rattle.corrector.specs.Correction.{correcting, Correctable, correctionAnswer, correctedFluxes};
+ghost use Rattle.coupling.specs.Grid.{grid, Coupled};
+ghost use Rattle.corrector.specs.Metrics.{metricsOf, metricsAnswer, metricsNumbers};
+ghost use Rattle.predictor.specs.Prediction.{flow, Flowing, predictionAnswer, predictedFluxes};
 ghost use Rattle.step.specs.Call.{handed, IfAccepted, cleared, results, OutputsFit};
 ghost use Rattle.scheme.specs.Step.{alike, finiteAnswer, workAnswer, Lendable};
 use mesh::Answer;
@@ -47,7 +47,13 @@ fn measure(
     ensures { λ r. ⌜ r ≡ orElse (metricsAnswer (metricsOf (now (places .entry)) (outflows (length (now (outflow .entry))) (now (adjacency .entry)) (now (flux .entry))))) (finiteAnswer (outflows (length (now (outflow .entry))) (now (adjacency .entry)) (now (flux .entry)))) ⌝ }
     ensures { λ r. ⌜ IfAccepted r ((now (outflow .exit) ≡ outflows (length (now (outflow .entry))) (now (adjacency .entry)) (now (flux .entry))) × (now (metrics .exit) ≡ metricsNumbers (metricsOf (now (places .entry)) (outflows (length (now (outflow .entry))) (now (adjacency .entry)) (now (flux .entry)))))) ⌝ }
 {
-    let a = simple::inner::metrics::continuity_metrics(adjacency, places, flux, outflow, metrics);
+    let a = corrector::inner::metrics::continuity_metrics(
+        adjacency,
+        places,
+        flux,
+        outflow,
+        metrics,
+    );
     match a {
         Answer::Accepted => finite_outflows(outflow),
         Answer::Refused(k, i) => Answer::Refused(k, i),
@@ -76,7 +82,7 @@ fn correct(
     ensures { λ r. ⌜ r ≡ orElse (boundaryAnswer (grid (now (adjacency .entry)) (now (geometry .entry)) (now (places .entry))) (bounds (now (codes .entry)) (now (values .entry))) (now (responses .entry)) (length (now (coefficients .entry)))) (correctionAnswer (correcting (now (adjacency .entry)) (now (codes .entry)) (now (values .entry)) (now (predicted .entry)) (boundaryCoefficients (grid (now (adjacency .entry)) (now (geometry .entry)) (now (places .entry))) (bounds (now (codes .entry)) (now (values .entry))) (now (responses .entry)) (length (now (coefficients .entry)))) (now (corrections .entry)))) ⌝ }
     ensures { λ r. ⌜ IfAccepted r ((now (coefficients .exit) ≡ boundaryCoefficients (grid (now (adjacency .entry)) (now (geometry .entry)) (now (places .entry))) (bounds (now (codes .entry)) (now (values .entry))) (now (responses .entry)) (length (now (coefficients .entry)))) × (now (flux .exit) ≡ correctedFluxes (correcting (now (adjacency .entry)) (now (codes .entry)) (now (values .entry)) (now (predicted .entry)) (boundaryCoefficients (grid (now (adjacency .entry)) (now (geometry .entry)) (now (places .entry))) (bounds (now (codes .entry)) (now (values .entry))) (now (responses .entry)) (length (now (coefficients .entry)))) (now (corrections .entry))))) ⌝ }
 {
-    let a = simple::inner::boundary::complete(
+    let a = predictor::inner::boundary::complete(
         adjacency,
         geometry,
         places,
@@ -86,7 +92,7 @@ fn correct(
         coefficients,
     );
     match a {
-        Answer::Accepted => simple::inner::correction::correct_face_flux(
+        Answer::Accepted => corrector::inner::correction::correct_face_flux(
             adjacency,
             codes,
             values,
@@ -150,7 +156,7 @@ fn predict(
         inverses,
     );
     match a {
-        Answer::Accepted => simple::inner::prediction::rhie_chow_predicted_flux(
+        Answer::Accepted => predictor::inner::prediction::rhie_chow_predicted_flux(
             adjacency,
             geometry,
             places,

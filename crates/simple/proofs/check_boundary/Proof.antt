@@ -1,5 +1,5 @@
 -- `simple::check_boundary` meets its contract: the checks of shape, then 4 and 6.
-use Rattle.simple.specs.Boundary.{boundaryChecks}
+use Rattle.predictor.specs.Boundary.{boundaryChecks}
 use Rattle.mesh.proofs.Search.{names-lowest}
 use Rattle.mesh.specs.Search.{lowestWhere}
 use Rattle.mesh.specs.Checks.{badLink}

@@ -1,5 +1,5 @@
 -- `simple::check_coefficients` meets its contract: the checks of shape, then 4.
-use Rattle.simple.specs.Coefficients.{coefficientChecks}
+use Rattle.predictor.specs.Coefficients.{coefficientChecks}
 use Rattle.mesh.specs.Answers.{orElse}
 use mathlib.Core.Path.{_∙_}
 use borrow.Author.Needs.{needs}

@@ -1,5 +1,5 @@
 -- `simple::check_diagonal` meets its contract.
-use Rattle.simple.specs.Diagonal.{diagonalChecks}
+use Rattle.corrector.specs.Diagonal.{diagonalChecks}
 use mathlib.Core.Path.{_∙_}
 use borrow.Author.Needs.{needs}
 use Rattle.simple.proofs.check_diagonal.Statement.{statement}

@@ -1,5 +1,5 @@
 -- `simple::check_links` meets its contract.
-use Rattle.simple.specs.Boundary.{links}
+use Rattle.predictor.specs.Boundary.{links}
 use mathlib.Core.Path.{_∙_}
 use borrow.Author.Needs.{needs}
 use Rattle.simple.proofs.check_links.Statement.{statement}

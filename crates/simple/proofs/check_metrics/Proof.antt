@@ -1,5 +1,5 @@
 -- `simple::check_metrics` meets its contract: the checks of shape, then 4.
-use Rattle.simple.specs.Metrics.{metricsChecks}
+use Rattle.corrector.specs.Metrics.{metricsChecks}
 use Rattle.mesh.specs.Answers.{orElse}
 use mathlib.Core.Path.{_∙_}
 use borrow.Author.Needs.{needs}

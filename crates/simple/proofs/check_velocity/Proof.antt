@@ -1,5 +1,5 @@
 -- `simple::check_velocity` meets its contract.
-use Rattle.simple.specs.Velocity.{velocityChecks}
+use Rattle.corrector.specs.Velocity.{velocityChecks}
 use mathlib.Core.Path.{_∙_}
 use borrow.Author.Needs.{needs}
 use Rattle.simple.proofs.check_velocity.Statement.{statement}

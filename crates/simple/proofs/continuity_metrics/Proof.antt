@@ -1,7 +1,7 @@
 -- `simple::continuity_metrics` meets its contract: the checks, and after them the work.
 use Rattle.simple.proofs.Checked.{metrics-passed}
-use Rattle.simple.specs.Metrics.{metricsOf, metricsAnswer, metricsNumbers}
-use Rattle.simple.specs.Grid.{field}
+use Rattle.corrector.specs.Metrics.{metricsOf, metricsAnswer, metricsNumbers}
+use Rattle.coupling.specs.Grid.{field}
 use Rattle.numerics.specs.Outflow.{outflows}
 use Rattle.mesh.specs.Pass.{handedOut, unless}
 use Rattle.mesh.specs.Answers.{orElse}

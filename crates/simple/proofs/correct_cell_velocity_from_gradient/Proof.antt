@@ -1,6 +1,6 @@
 -- `simple::correct_cell_velocity_from_gradient` meets its contract: the checks, and after them the work.
 use Rattle.simple.proofs.Checked.{velocity-passed}
-use Rattle.simple.specs.Grid.{field}
+use Rattle.coupling.specs.Grid.{field}
 use Rattle.mesh.specs.Pass.{unless}
 use Rattle.mesh.specs.Answers.{orElse}
 use denote.Ref.{now}

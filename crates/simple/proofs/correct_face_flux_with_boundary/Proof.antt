@@ -1,11 +1,11 @@
 -- `simple::correct_face_flux_with_boundary` meets its contract: the checks, and after them the work.
 use Rattle.simple.proofs.Checked.{correction-passed}
-use Rattle.simple.proofs.Promised.{promised}
-use Rattle.simple.proofs.Stages.{handed-out, never-accepted}
-use Rattle.simple.specs.Grid.{field}
-use Rattle.simple.specs.Correction.{correctedFluxes}
+use Rattle.corrector.proofs.Promised.{promised}
+use Rattle.passes.proofs.Stages.{handed-out, never-accepted}
+use Rattle.coupling.specs.Grid.{field}
+use Rattle.corrector.specs.Correction.{correctedFluxes}
 use Rattle.simple.specs.Corrected.{Fields, fields, correctingBy}
-use Rattle.simple.specs.Promise.{Promise, boundaryOf}
+use Rattle.corrector.specs.Promise.{Promise, boundaryOf}
 use Rattle.mesh.specs.Pass.{handedOut, unless}
 use Rattle.mesh.specs.Mesh.{Conditions, conditions}
 use Rattle.mesh.specs.Answers.{orElse}

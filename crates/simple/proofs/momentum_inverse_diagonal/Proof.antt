@@ -1,6 +1,6 @@
 -- `simple::momentum_inverse_diagonal` meets its contract: the checks, and after them the work.
 use Rattle.simple.proofs.Checked.{diagonal-passed}
-use Rattle.simple.specs.Diagonal.{inverses}
+use Rattle.corrector.specs.Diagonal.{inverses}
 use Rattle.mesh.specs.Pass.{handedOut, unless}
 use Rattle.mesh.specs.Answers.{orElse}
 use denote.Ref.{now}

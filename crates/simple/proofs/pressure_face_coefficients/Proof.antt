@@ -1,7 +1,7 @@
 -- `simple::pressure_face_coefficients` meets its contract: the checks, and after them the work.
 use Rattle.simple.proofs.Checked.{coefficients-passed}
-use Rattle.simple.specs.Grid.{Grid, grid, field}
-use Rattle.simple.specs.Coefficients.{coefficientAnswer, coefficients}
+use Rattle.coupling.specs.Grid.{Grid, grid, field}
+use Rattle.predictor.specs.Coefficients.{coefficientAnswer, coefficients}
 use Rattle.mesh.specs.Pass.{handedOut, unless}
 use Rattle.mesh.specs.Answers.{orElse}
 use denote.Ref.{now}

@@ -1,7 +1,7 @@
 -- `simple::pressure_face_coefficients_with_boundary` meets its contract: the checks, and after them the work.
 use Rattle.simple.proofs.Checked.{boundary-passed}
-use Rattle.simple.specs.Grid.{Grid, grid, field}
-use Rattle.simple.specs.Boundary.{boundsOf, boundaryAnswer, boundaryCoefficients}
+use Rattle.coupling.specs.Grid.{Grid, grid, field}
+use Rattle.predictor.specs.Boundary.{boundsOf, boundaryAnswer, boundaryCoefficients}
 use Rattle.mesh.specs.Pass.{handedOut, unless}
 use Rattle.mesh.specs.Mesh.{Conditions, conditions}
 use Rattle.mesh.specs.Answers.{orElse}

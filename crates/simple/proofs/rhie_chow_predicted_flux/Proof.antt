@@ -1,8 +1,8 @@
 -- `simple::rhie_chow_predicted_flux` meets its contract: the checks, and after them the work.
 use Rattle.simple.proofs.Checked.{Predictable, prediction-passed}
 use Rattle.mesh.specs.declared.Answer.the-variants.{Accepted}
-use Rattle.simple.specs.Prediction.{Flow, flow, Lent, lent, predictionChecks, predictionAnswer, predictedFluxes}
-use Rattle.simple.specs.Grid.{Grid, grid, field}
+use Rattle.predictor.specs.Prediction.{Flow, flow, Lent, lent, predictionChecks, predictionAnswer, predictedFluxes}
+use Rattle.coupling.specs.Grid.{Grid, grid, field}
 use Rattle.numerics.specs.Gradient.{gradients}
 use Rattle.numerics.specs.Checks.{Slices, slices}
 use Rattle.mesh.specs.Pass.{handedOut, unless}

@@ -1,8 +1,8 @@
 -- `step::step` meets its contract: the checks, and after them the work.
 use Rattle.step.proofs.Outputs.{delivered}
 use Rattle.step.proofs.Passed.{passed, refused-first, same-work, ready-numbered}
-use Rattle.simple.proofs.Stages.{never-accepted}
-use Rattle.simple.specs.Grid.{field}
+use Rattle.passes.proofs.Stages.{never-accepted}
+use Rattle.coupling.specs.Grid.{field}
 use Rattle.step.specs.Call.{Handed, handed, OutputsFit}
 use Rattle.scheme.specs.Step.{Given, given, Lendable}
 use Rattle.mesh.specs.Answers.{orElse}

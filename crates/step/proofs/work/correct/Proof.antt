@@ -1,7 +1,7 @@
 -- `step::work::correct` meets its contract: the coefficients, and the fluxes by them.
-use Rattle.simple.proofs.Stages.{handed-out, never-accepted}
+use Rattle.passes.proofs.Stages.{handed-out, never-accepted}
 use Rattle.scheme.proofs.Parts.{with-coefficients}
-use Rattle.simple.specs.Correction.{Correcting, correcting, correctionAnswer, correctedFluxes}
+use Rattle.corrector.specs.Correction.{Correcting, correcting, correctionAnswer, correctedFluxes}
 use Rattle.mesh.specs.Answers.{orElse}
 use denote.Ref.{now}
 use lib.Ieee.{Float}

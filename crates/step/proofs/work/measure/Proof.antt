@@ -1,5 +1,5 @@
 -- `step::work::measure` meets its contract: the metrics, and after them the test of every outflow.
-use Rattle.simple.proofs.Stages.{handed-out, never-accepted}
+use Rattle.passes.proofs.Stages.{handed-out, never-accepted}
 use Rattle.scheme.specs.Step.{finiteAnswer}
 use Rattle.mesh.specs.Answers.{orElse}
 use mathlib.Core.Path.{_≡_, sym, _∙_, ap}

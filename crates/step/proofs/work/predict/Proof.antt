@@ -1,8 +1,8 @@
 -- `step::work::predict` meets its contract: the stencil, and the flux predicted by it.
-use Rattle.simple.proofs.Stages.{handed-out, never-accepted}
+use Rattle.passes.proofs.Stages.{handed-out, never-accepted}
 use Rattle.scheme.proofs.Parts.{begun, same-slices, sloped}
-use Rattle.simple.specs.Grid.{Grid, grid}
-use Rattle.simple.specs.Prediction.{Flow, flow, predictionAnswer, predictedFluxes}
+use Rattle.coupling.specs.Grid.{Grid, grid}
+use Rattle.predictor.specs.Prediction.{Flow, flow, predictionAnswer, predictedFluxes}
 use Rattle.numerics.specs.Checks.{Slices, slices}
 use Rattle.numerics.specs.Gradient.{gradients}
 use Rattle.numerics.specs.Lent.{Lent, lent}

@@ -1,8 +1,8 @@
 -- `step::work::run` meets its contract: each part is asked for what the checks establish and the parts before it hand on.
-use Rattle.simple.proofs.Stages.{never-accepted}
+use Rattle.passes.proofs.Stages.{never-accepted}
 use Rattle.step.proofs.Outputs.{same-handed}
 use Rattle.scheme.proofs.Parts.{predicted-size, lent-stencil, coupled, bounded, flowing, gradient-is, predicted-is, prediction-is, correctable-by, correction-is, coefficients-is, fluxes-is, flows-by, outflows-is, ends-first, ends-second, ends-last}
-use Rattle.simple.specs.Metrics.{metricsOf, metricsNumbers}
+use Rattle.corrector.specs.Metrics.{metricsOf, metricsNumbers}
 use Rattle.scheme.specs.Step.{Given, alike, predictedOf, fluxesOf}
 use Rattle.mesh.specs.Mesh.{mesh}
 use denote.Ref.{now}

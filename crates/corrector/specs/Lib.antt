@@ -1,0 +1,5 @@
+pub mod Diagonal
+pub mod Correction
+pub mod Promise
+pub mod Velocity
+pub mod Metrics

@@ -1,0 +1,2 @@
+pub mod Completed
+pub mod Stages

@@ -1,0 +1,3 @@
+pub mod Coefficients
+pub mod Boundary
+pub mod Prediction

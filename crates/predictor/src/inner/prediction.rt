@@ -1,0 +1,248 @@
+// The predicted flux of all faces.
+ghost use mathlib.Core.Path.{_≡_};
+ghost use Prim.Native.Nat.{_+_, _*_, _<_};
+ghost use lib.ListN.{length};
+ghost use Rattle.mesh.specs.Pass.{handedOut};
+ghost use Rattle.mesh.specs.Records.{secondAt};
+ghost use Rattle.numerics.specs.Checks.{slices};
+ghost use Rattle.numerics.specs.Gradient.{gradients, Sloped};
+ghost use Rattle.predictor.specs.Coefficients.{internalAt, coefficients};
+ghost use Rattle.coupling.specs.Grid.{grid, Coupled};
+ghost use Rattle.predictor.specs.Prediction.{flow, sideAt, predictedAt, predictionAnswer, predictedFluxes, Flowing};
+ghost use Rattle.passes.specs.Staged.{staged, storedAt, Passes, Fills};
+use crate::inner::coefficients::distances_at;
+use crate::inner::coefficients::pair_at;
+use crate::inner::coefficients::span_to;
+use coupling::Side;
+use mesh::Answer;
+use mesh::Face;
+use mesh::Outcome;
+use passes::Stage;
+use passes::early_number;
+use passes::inner::keep;
+use passes::is_early;
+use passes::late;
+use passes::settle;
+use passes::store;
+
+// What the cell c brings to a flux.
+fn side_at(
+    velocity: &[f64],
+    pressure: &[f64],
+    gradient: &[f64],
+    responses: &[f64],
+    c: usize,
+) -> Side
+    requires { ⌜ (3 * c + 2 < length (now velocity)) × (3 * c + 2 < length (now gradient)) × (c < length (now pressure)) × (c < length (now responses)) ⌝ }
+    ensures { λ r. ⌜ r ≡ sideAt (flow (now (velocity .entry)) (now (pressure .entry)) (now (gradient .entry)) (now (responses .entry))) c ⌝ }
+{
+    let b = 3 * c;
+    Side {
+        velocity: mesh::inner::vector_at(velocity, b),
+        gradient: mesh::inner::vector_at(gradient, b),
+        pressure: pressure[c],
+        response: responses[c],
+    }
+}
+
+// The flux of the face f between two cells; its coefficient, which is stored where there is room,
+// refuses before any flux.
+fn between(
+    adjacency: &[usize],
+    geometry: &[f64],
+    places: &[f64],
+    velocity: &[f64],
+    pressure: &[f64],
+    gradient: &[f64],
+    responses: &[f64],
+    walls: &[f64],
+    f: usize,
+    internal: &mut [f64],
+) -> Stage
+    requires { ⌜ Flowing (grid (now adjacency) (now geometry) (now places)) (flow (now velocity) (now pressure) (now gradient) (now responses)) (length (now walls)) ⌝ }
+    requires { ⌜ (f < length (now walls)) × (0 < secondAt (now adjacency) f) ⌝ }
+    ensures { λ r. ⌜ r ≡ staged (internalAt (grid (now (adjacency .entry)) (now (geometry .entry)) (now (places .entry))) (now (responses .entry)) f) (predictedAt (grid (now (adjacency .entry)) (now (geometry .entry)) (now (places .entry))) (flow (now (velocity .entry)) (now (pressure .entry)) (now (gradient .entry)) (now (responses .entry))) (now (walls .entry)) f) ⌝ }
+    ensures { λ _. ⌜ now (internal .exit) ≡ storedAt (now (internal .entry)) f (internalAt (grid (now (adjacency .entry)) (now (geometry .entry)) (now (places .entry))) (now (responses .entry)) f) ⌝ }
+{
+    let face = mesh::inner::face_at(adjacency, geometry, f);
+    let n = face.neighbour - 1;
+    let other = mesh::inner::cell_at(places, n);
+    let span = span_to(face, places, other.center);
+    let d = distances_at(geometry, places, f, face.owner, n);
+    let r = pair_at(responses, face.owner, n);
+    match coupling::internal_coefficient(span, d, r) {
+        Outcome::Value(k) => {
+            store(internal, f, k);
+            let a = side_at(velocity, pressure, gradient, responses, face.owner);
+            let b = side_at(velocity, pressure, gradient, responses, n);
+            late(coupling::predicted_flux(span, d, k, a, b))
+        }
+        Outcome::Bad(k) => Stage::Early(k),
+    }
+}
+
+// The flux of the face f; one with one cell keeps its wall flux.
+fn stage_at(
+    adjacency: &[usize],
+    geometry: &[f64],
+    places: &[f64],
+    velocity: &[f64],
+    pressure: &[f64],
+    gradient: &[f64],
+    responses: &[f64],
+    walls: &[f64],
+    f: usize,
+    internal: &mut [f64],
+) -> Stage
+    requires { ⌜ Flowing (grid (now adjacency) (now geometry) (now places)) (flow (now velocity) (now pressure) (now gradient) (now responses)) (length (now walls)) ⌝ }
+    requires { ⌜ f < length (now walls) ⌝ }
+    ensures { λ r. ⌜ r ≡ staged (internalAt (grid (now (adjacency .entry)) (now (geometry .entry)) (now (places .entry))) (now (responses .entry)) f) (predictedAt (grid (now (adjacency .entry)) (now (geometry .entry)) (now (places .entry))) (flow (now (velocity .entry)) (now (pressure .entry)) (now (gradient .entry)) (now (responses .entry))) (now (walls .entry)) f) ⌝ }
+    ensures { λ _. ⌜ now (internal .exit) ≡ storedAt (now (internal .entry)) f (internalAt (grid (now (adjacency .entry)) (now (geometry .entry)) (now (places .entry))) (now (responses .entry)) f) ⌝ }
+{
+    let neighbour = mesh::inner::second_of(adjacency, f);
+    if neighbour == 0 {
+        store(internal, f, 0.0);
+        return Stage::Kept(walls[f]);
+    }
+    between(
+        adjacency,
+        geometry,
+        places,
+        velocity,
+        pressure,
+        gradient,
+        responses,
+        walls,
+        f,
+        internal,
+    )
+}
+
+// Writes the fluxes up to the first refusal of a coefficient, and the coefficients of the faces with
+// two cells where there is room for all.
+fn predict(
+    adjacency: &[usize],
+    geometry: &[f64],
+    places: &[f64],
+    velocity: &[f64],
+    pressure: &[f64],
+    gradient: &[f64],
+    responses: &[f64],
+    walls: &[f64],
+    internal: &mut [f64],
+    out: &mut [f64],
+) -> Answer
+    requires { ⌜ Flowing (grid (now adjacency) (now geometry) (now places)) (flow (now velocity) (now pressure) (now gradient) (now responses)) (length (now walls)) ⌝ }
+    requires { ⌜ length (now out) ≡ length (now walls) ⌝ }
+    ensures { λ r. ⌜ Passes (predictionAnswer (grid (now (adjacency .entry)) (now (geometry .entry)) (now (places .entry))) (flow (now (velocity .entry)) (now (pressure .entry)) (now (gradient .entry)) (now (responses .entry))) (now (walls .entry))) (predictedFluxes (grid (now (adjacency .entry)) (now (geometry .entry)) (now (places .entry))) (flow (now (velocity .entry)) (now (pressure .entry)) (now (gradient .entry)) (now (responses .entry))) (now (walls .entry))) r (now (out .exit)) ⌝ }
+    ensures { λ r. ⌜ Fills (length (now (internal .entry))) (length (now (walls .entry))) (coefficients (grid (now (adjacency .entry)) (now (geometry .entry)) (now (places .entry))) (now (responses .entry)) (length (now (walls .entry)))) r (now (internal .exit)) ⌝ }
+{
+    let mut a = Answer::Accepted;
+    let mut f = 0;
+    while f < walls.len() {
+        let s = stage_at(
+            adjacency,
+            geometry,
+            places,
+            velocity,
+            pressure,
+            gradient,
+            responses,
+            walls,
+            f,
+            internal,
+        );
+        if is_early(s) {
+            return Answer::Refused(early_number(s), f);
+        }
+        a = keep(out, f, s, a);
+        f += 1;
+    }
+    a
+}
+
+// From a gradient that is there.
+pub fn predicted_flux(
+    adjacency: &[usize],
+    geometry: &[f64],
+    places: &[f64],
+    velocity: &[f64],
+    pressure: &[f64],
+    gradient: &[f64],
+    responses: &[f64],
+    walls: &[f64],
+    internal: &mut [f64],
+    out: &mut [f64],
+) -> Answer
+    requires { ⌜ Flowing (grid (now adjacency) (now geometry) (now places)) (flow (now velocity) (now pressure) (now gradient) (now responses)) (length (now walls)) ⌝ }
+    requires { ⌜ length (now out) ≡ length (now walls) ⌝ }
+    ensures { λ r. ⌜ r ≡ predictionAnswer (grid (now (adjacency .entry)) (now (geometry .entry)) (now (places .entry))) (flow (now (velocity .entry)) (now (pressure .entry)) (now (gradient .entry)) (now (responses .entry))) (now (walls .entry)) ⌝ }
+    ensures { λ r. ⌜ now (out .exit) ≡ handedOut r (length (now (walls .entry))) (predictedFluxes (grid (now (adjacency .entry)) (now (geometry .entry)) (now (places .entry))) (flow (now (velocity .entry)) (now (pressure .entry)) (now (gradient .entry)) (now (responses .entry))) (now (walls .entry))) ⌝ }
+    ensures { λ r. ⌜ Fills (length (now (internal .entry))) (length (now (walls .entry))) (coefficients (grid (now (adjacency .entry)) (now (geometry .entry)) (now (places .entry))) (now (responses .entry)) (length (now (walls .entry)))) r (now (internal .exit)) ⌝ }
+{
+    let a = predict(
+        adjacency,
+        geometry,
+        places,
+        velocity,
+        pressure,
+        gradient,
+        responses,
+        walls,
+        internal,
+        out,
+    );
+    settle(out, a)
+}
+
+// The gradient of the pressure from a stencil, and the flux that is predicted with it; a refusal
+// clears both. Of an accepted call the coefficients of the faces with two cells are left in
+// `internal`, where there is room for all.
+pub fn rhie_chow_predicted_flux(
+    adjacency: &[usize],
+    geometry: &[f64],
+    places: &[f64],
+    records: usize,
+    starts: &[usize],
+    equations: &[usize],
+    weights: &[f64],
+    inverses: &[f64],
+    velocity: &[f64],
+    pressure: &[f64],
+    responses: &[f64],
+    walls: &[f64],
+    internal: &mut [f64],
+    gradient: &mut [f64],
+    out: &mut [f64],
+) -> Answer
+    requires { ⌜ Sloped (slices (now starts) (now equations) (now weights) (now inverses)) records (now pressure) ⌝ }
+    requires { ⌜ Flowing (grid (now adjacency) (now geometry) (now places)) (flow (now velocity) (now pressure) (now gradient) (now responses)) (length (now walls)) ⌝ }
+    requires { ⌜ length (now out) ≡ length (now walls) ⌝ }
+    ensures { λ r. ⌜ r ≡ predictionAnswer (grid (now (adjacency .entry)) (now (geometry .entry)) (now (places .entry))) (flow (now (velocity .entry)) (now (pressure .entry)) (gradients (slices (now (starts .entry)) (now (equations .entry)) (now (weights .entry)) (now (inverses .entry))) records (now (pressure .entry)) (length (now (pressure .entry)))) (now (responses .entry))) (now (walls .entry)) ⌝ }
+    ensures { λ r. ⌜ now (gradient .exit) ≡ handedOut r (length (now (gradient .entry))) (gradients (slices (now (starts .entry)) (now (equations .entry)) (now (weights .entry)) (now (inverses .entry))) records (now (pressure .entry)) (length (now (pressure .entry)))) ⌝ }
+    ensures { λ r. ⌜ now (out .exit) ≡ handedOut r (length (now (walls .entry))) (predictedFluxes (grid (now (adjacency .entry)) (now (geometry .entry)) (now (places .entry))) (flow (now (velocity .entry)) (now (pressure .entry)) (gradients (slices (now (starts .entry)) (now (equations .entry)) (now (weights .entry)) (now (inverses .entry))) records (now (pressure .entry)) (length (now (pressure .entry)))) (now (responses .entry))) (now (walls .entry))) ⌝ }
+    ensures { λ r. ⌜ Fills (length (now (internal .entry))) (length (now (walls .entry))) (coefficients (grid (now (adjacency .entry)) (now (geometry .entry)) (now (places .entry))) (now (responses .entry)) (length (now (walls .entry)))) r (now (internal .exit)) ⌝ }
+{
+    numerics::inner::gradient::least_squares_gradient(
+        starts,
+        equations,
+        weights,
+        inverses,
+        records,
+        pressure,
+        gradient,
+    );
+    let a = predicted_flux(
+        adjacency,
+        geometry,
+        places,
+        velocity,
+        pressure,
+        gradient,
+        responses,
+        walls,
+        internal,
+        out,
+    );
+    settle(gradient, a)
+}

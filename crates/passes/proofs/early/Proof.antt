@@ -1,4 +1,4 @@
--- `simple::inner::stage::early` meets its contract.
+-- `passes::early` meets its contract.
 use Rattle.passes.specs.Staged.{lateOf, staged}
 use borrow.Author.Needs.{needs}
 use Rattle.passes.proofs.early.Statement.{statement}

@@ -1,4 +1,4 @@
--- `simple::inner::stage::early_number` meets its contract.
+-- `passes::early_number` meets its contract.
 use Rattle.passes.specs.Staged.{earlyNumber}
 use borrow.Author.Needs.{needs}
 use Rattle.passes.proofs.early_number.Statement.{statement}

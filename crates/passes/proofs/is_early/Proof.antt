@@ -1,4 +1,4 @@
--- `simple::inner::stage::is_early` meets its contract.
+-- `passes::is_early` meets its contract.
 use Rattle.passes.specs.Staged.{isEarly}
 use borrow.Author.Needs.{needs}
 use Rattle.passes.proofs.is_early.Statement.{statement}

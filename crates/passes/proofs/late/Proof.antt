@@ -1,4 +1,4 @@
--- `simple::inner::stage::late` meets its contract.
+-- `passes::late` meets its contract.
 use Rattle.passes.specs.Staged.{lateOf}
 use borrow.Author.Needs.{needs}
 use Rattle.passes.proofs.late.Statement.{statement}

@@ -1,4 +1,4 @@
--- `simple::inner::stage::settle` meets its contract.
+-- `passes::settle` meets its contract.
 use Rattle.mesh.specs.Pass.{handedOut}
 use mathlib.Core.Path.{refl, sym}
 use borrow.Author.Needs.{needs}

@@ -1,4 +1,4 @@
--- `simple::inner::stage::store` meets its contract: beyond the end nothing is written.
+-- `passes::store` meets its contract: beyond the end nothing is written.
 use lib.Seq.{set-out}
 use mathlib.Core.Path.{sym}
 use borrow.Author.Needs.{needs}

@@ -1,4 +1,4 @@
--- `simple::inner::stage::first_late` meets its contract.
+-- `passes::inner::first_late` meets its contract.
 use Rattle.passes.specs.Staged.{lateAfter}
 use Rattle.mesh.specs.Pass.{after}
 use borrow.Author.Needs.{needs}

@@ -1,4 +1,4 @@
--- `simple::inner::stage::keep` meets its contract.
+-- `passes::inner::keep` meets its contract.
 use Rattle.passes.specs.Staged.{keptAt, lateAfter}
 use mathlib.Core.Path.{refl}
 use borrow.Author.Needs.{needs}

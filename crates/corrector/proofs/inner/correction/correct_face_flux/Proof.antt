@@ -1,4 +1,4 @@
--- `simple::inner::correction::correct_face_flux` meets its contract.
+-- `corrector::inner::correction::correct_face_flux` meets its contract.
 use Rattle.passes.proofs.Stages.{settled}
 use denote.Ref.{now}
 use lib.ListN.{length}

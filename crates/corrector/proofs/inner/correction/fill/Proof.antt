@@ -1,4 +1,4 @@
--- `simple::inner::correction::fill` meets its contract: the fluxes of the faces below `face` are written.
+-- `corrector::inner::correction::fill` meets its contract: the fluxes of the faces below `face` are written.
 use Rattle.corrector.specs.Correction.{correcting, correctedFluxAt}
 use Rattle.mesh.proofs.Pass.{Passed, start, more, finish, stop}
 use Rattle.mesh.specs.declared.Outcome.{Outcome}

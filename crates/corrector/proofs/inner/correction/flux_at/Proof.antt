@@ -1,4 +1,4 @@
--- `simple::inner::correction::flux_at` meets its contract: the cells that are read are there.
+-- `corrector::inner::correction::flux_at` meets its contract: the cells that are read are there.
 use Rattle.corrector.specs.Correction.{correctedFluxAt}
 use borrow.Author.Tests.{eq-eqb, ne-eqb}
 use denote.Ref.{now}

@@ -1,4 +1,4 @@
--- `simple::inner::correction::wall_flux` meets its contract.
+-- `corrector::inner::correction::wall_flux` meets its contract.
 use Rattle.corrector.specs.Correction.{wallFlux}
 use borrow.Author.Needs.{needs}
 use Rattle.corrector.proofs.inner.correction.wall_flux.Statement.{statement}

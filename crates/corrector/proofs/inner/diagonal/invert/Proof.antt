@@ -1,4 +1,4 @@
--- `simple::inner::diagonal::invert` meets its contract: the inverses of the cells below c are written.
+-- `corrector::inner::diagonal::invert` meets its contract: the inverses of the cells below c are written.
 use Rattle.corrector.specs.Diagonal.{inverseAt}
 use Rattle.mesh.proofs.Pass.{Passed, start, more, finish, stop}
 use Rattle.mesh.specs.declared.Outcome.the-variants.{Value, Bad}

@@ -1,4 +1,4 @@
--- `simple::inner::diagonal::momentum_inverse_diagonal` meets its contract.
+-- `corrector::inner::diagonal::momentum_inverse_diagonal` meets its contract.
 use Rattle.passes.proofs.Stages.{settled}
 use denote.Ref.{now}
 use lib.ListN.{length}

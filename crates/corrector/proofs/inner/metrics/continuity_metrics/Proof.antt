@@ -1,4 +1,4 @@
--- `simple::inner::metrics::continuity_metrics` meets its contract.
+-- `corrector::inner::metrics::continuity_metrics` meets its contract.
 use Rattle.corrector.specs.Metrics.{metricsOf, metricsAnswer, metricsNumbers}
 use Rattle.mesh.specs.Pass.{handedOut}
 use denote.Ref.{now}

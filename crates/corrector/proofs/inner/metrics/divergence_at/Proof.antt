@@ -1,4 +1,4 @@
--- `simple::inner::metrics::divergence_at` meets its contract.
+-- `corrector::inner::metrics::divergence_at` meets its contract.
 use mathlib.Core.Path.{_∙_}
 use Rattle.corrector.specs.Metrics.{divergenceAt}
 use borrow.Author.Needs.{needs}

@@ -1,4 +1,4 @@
--- `simple::inner::metrics::index_in` meets its contract.
+-- `corrector::inner::metrics::index_in` meets its contract.
 use borrow.Author.Tests.{eq-eqb, ne-eqb}
 use Rattle.corrector.proofs.inner.metrics.index_in.Statement.{statement}
 use Rattle.corrector.proofs.inner.metrics.index_in.Tie as tie

@@ -1,4 +1,4 @@
--- `simple::inner::metrics::measure` meets its contract: no cell below c refuses, and the largest of their divergences is at hand.
+-- `corrector::inner::metrics::measure` meets its contract: no cell below c refuses, and the largest of their divergences is at hand.
 use Rattle.mesh.proofs.Pass.{refused-at}
 use Rattle.corrector.proofs.Largest.{Surveyed, start, more, finish}
 use Rattle.corrector.specs.Metrics.{divergenceAt, measuredBy}

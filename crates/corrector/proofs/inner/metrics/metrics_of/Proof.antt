@@ -1,4 +1,4 @@
--- `simple::inner::metrics::metrics_of` meets its contract.
+-- `corrector::inner::metrics::metrics_of` meets its contract.
 use Rattle.corrector.specs.Metrics.{metricsOf}
 use borrow.Author.Tests.{not-true, not-false}
 use borrow.Author.Needs.{needs}

@@ -1,4 +1,4 @@
--- `simple::inner::metrics::outflow_metrics` meets its contract.
+-- `corrector::inner::metrics::outflow_metrics` meets its contract.
 use denote.Ref.{now}
 use Rattle.corrector.specs.Metrics.{metricsAnswer, metricsNumbers}
 use Rattle.mesh.specs.Pass.{handedOut}

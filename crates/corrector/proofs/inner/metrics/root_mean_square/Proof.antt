@@ -1,4 +1,4 @@
--- `simple::inner::metrics::root_mean_square` meets its contract.
+-- `corrector::inner::metrics::root_mean_square` meets its contract.
 use borrow.Author.Tests.{le-leb}
 use denote.Ref.{now}
 use lib.Ieee.{inFloat}

@@ -1,4 +1,4 @@
--- `simple::inner::metrics::squared_sum` meets its contract: the squares of the cells below c are summed.
+-- `corrector::inner::metrics::squared_sum` meets its contract: the squares of the cells below c are summed.
 use Rattle.corrector.specs.Metrics.{squaredSum}
 use denote.Ref.{now}
 use lib.Ieee.{nan}

@@ -1,4 +1,4 @@
--- `simple::inner::velocity::correct` meets its contract: the cells below c stand, and their velocities are written.
+-- `corrector::inner::velocity::correct` meets its contract: the cells below c stand, and their velocities are written.
 use Rattle.corrector.specs.Velocity.{correctedAt, failsAt}
 use Rattle.mesh.proofs.Vectors as vectors
 use Rattle.mesh.proofs.Search as search

@@ -1,4 +1,4 @@
--- `simple::inner::velocity::correct_cell_velocity_from_gradient` meets its contract.
+-- `corrector::inner::velocity::correct_cell_velocity_from_gradient` meets its contract.
 use Rattle.binary64.specs.Numbers.{zero64}
 use lib.ListN.{replicate}
 use Rattle.mesh.specs.Pass.{handedOut}

@@ -1,4 +1,4 @@
--- `simple::inner::velocity::corrected_at` meets its contract.
+-- `corrector::inner::velocity::corrected_at` meets its contract.
 use Rattle.corrector.specs.Velocity.{correctedAt}
 use borrow.Author.Needs.{needs}
 use Rattle.corrector.proofs.inner.velocity.corrected_at.Statement.{statement}

@@ -1,4 +1,4 @@
--- `simple::inner::boundary::boundary_at` meets its contract: the link is looked at before the condition.
+-- `predictor::inner::boundary::boundary_at` meets its contract: the link is looked at before the condition.
 use Rattle.predictor.specs.Boundary.{boundaryAt}
 use borrow.Author.Tests.{eq-eqb, ne-eqb}
 use native.Mathlib.Omega.{arith}

@@ -1,4 +1,4 @@
--- `simple::inner::boundary::by_condition` meets its contract.
+-- `predictor::inner::boundary::by_condition` meets its contract.
 use Rattle.predictor.proofs.Sides.{owned, in-places}
 use Rattle.coupling.specs.Grid.{Grid, grid}
 use Rattle.predictor.specs.Boundary.{byCondition}

@@ -1,4 +1,4 @@
--- `simple::inner::boundary::complete` meets its contract: below f the coefficients are complete, and from f on as they were.
+-- `predictor::inner::boundary::complete` meets its contract: below f the coefficients are complete, and from f on as they were.
 use Rattle.passes.proofs.Completed.{Completes, begun, still, further, ended, halted}
 use Rattle.passes.proofs.Stages.{never-accepted}
 use Rattle.predictor.specs.Boundary.{Bounded, bounds, coefficientAt}

@@ -1,4 +1,4 @@
--- `simple::inner::boundary::completed_at` meets its contract: a face with two cells keeps its number.
+-- `predictor::inner::boundary::completed_at` meets its contract: a face with two cells keeps its number.
 use Rattle.predictor.specs.Boundary.{coefficientAt}
 use borrow.Author.Tests.{eq-eqb, ne-eqb}
 use mathlib.Core.Path.{_≡_, sym, _∙_}

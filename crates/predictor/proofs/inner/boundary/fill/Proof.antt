@@ -1,4 +1,4 @@
--- `simple::inner::boundary::fill` meets its contract: below f no face with two cells refuses, and a is the first refusal of the others.
+-- `predictor::inner::boundary::fill` meets its contract: below f no face with two cells refuses, and a is the first refusal of the others.
 use Rattle.passes.proofs.Stages.{Both, start, more, stop, finish}
 use Rattle.coupling.specs.Grid.{grid, Coupled}
 use Rattle.predictor.specs.Coefficients.{internalAt}

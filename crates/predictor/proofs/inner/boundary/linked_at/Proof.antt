@@ -1,4 +1,4 @@
--- `simple::inner::boundary::linked_at` meets its contract: the peer's owner is a cell.
+-- `predictor::inner::boundary::linked_at` meets its contract: the peer's owner is a cell.
 use Rattle.predictor.proofs.Sides.{owned, in-places, linked, peer-reads, peer-owned}
 use Rattle.coupling.specs.Grid.{Grid, grid}
 use Rattle.predictor.specs.Boundary.{Bounds, bounds, linkedAt}

@@ -1,4 +1,4 @@
--- `simple::inner::boundary::pressure_face_coefficients_with_boundary` meets its contract.
+-- `predictor::inner::boundary::pressure_face_coefficients_with_boundary` meets its contract.
 use Rattle.passes.proofs.Stages.{settled}
 use denote.Ref.{now}
 use lib.ListN.{length}

@@ -1,4 +1,4 @@
--- `simple::inner::boundary::stage_at` meets its contract: a face with two cells refuses in the first sequence, any other in the second.
+-- `predictor::inner::boundary::stage_at` meets its contract: a face with two cells refuses in the first sequence, any other in the second.
 use Rattle.passes.specs.Staged.{staged}
 use Rattle.predictor.specs.Coefficients.{internalAt}
 use Rattle.predictor.specs.Boundary.{coefficientAt}

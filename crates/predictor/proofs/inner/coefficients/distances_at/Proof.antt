@@ -1,4 +1,4 @@
--- `simple::inner::coefficients::distances_at` meets its contract.
+-- `predictor::inner::coefficients::distances_at` meets its contract.
 use borrow.Author.Needs.{needs}
 use Rattle.predictor.proofs.inner.coefficients.distances_at.Statement.{statement}
 use Rattle.predictor.proofs.inner.coefficients.distances_at.Tie as tie

@@ -1,4 +1,4 @@
--- `simple::inner::coefficients::fill` meets its contract: the coefficients of the faces below f are written.
+-- `predictor::inner::coefficients::fill` meets its contract: the coefficients of the faces below f are written.
 use Rattle.coupling.specs.Grid.{grid, Coupled}
 use Rattle.predictor.specs.Coefficients.{internalAt}
 use Rattle.mesh.specs.declared.Outcome.{Outcome}

@@ -1,4 +1,4 @@
--- `simple::inner::coefficients::internal_at` meets its contract.
+-- `predictor::inner::coefficients::internal_at` meets its contract.
 use Rattle.predictor.specs.Coefficients.{internalAt}
 use Rattle.coupling.specs.Grid.{Grid, grid}
 use Rattle.predictor.proofs.Between.{coefficient-read}

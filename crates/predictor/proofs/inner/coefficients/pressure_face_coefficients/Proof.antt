@@ -1,4 +1,4 @@
--- `simple::inner::coefficients::pressure_face_coefficients` meets its contract.
+-- `predictor::inner::coefficients::pressure_face_coefficients` meets its contract.
 use Rattle.passes.proofs.Stages.{settled}
 use denote.Ref.{now}
 use lib.ListN.{length}

@@ -1,4 +1,4 @@
--- `simple::inner::coefficients::span_to` meets its contract.
+-- `predictor::inner::coefficients::span_to` meets its contract.
 use borrow.Author.Needs.{needs}
 use Rattle.predictor.proofs.inner.coefficients.span_to.Statement.{statement}
 use Rattle.predictor.proofs.inner.coefficients.span_to.Tie as tie

@@ -1,4 +1,4 @@
--- `simple::inner::prediction::between` meets its contract: the coefficient first, and the flux with it.
+-- `predictor::inner::prediction::between` meets its contract: the coefficient first, and the flux with it.
 use Rattle.predictor.proofs.Between.{coefficient-read, flux-read}
 use Rattle.predictor.proofs.Sides.{owned, across, in-places}
 use Rattle.passes.specs.Staged.{lateOf, staged, storedAt}

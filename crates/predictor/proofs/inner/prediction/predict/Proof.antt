@@ -1,4 +1,4 @@
--- `simple::inner::prediction::predict` meets its contract: below f no coefficient refuses, and a is the first refusal of a flux.
+-- `predictor::inner::prediction::predict` meets its contract: below f no coefficient refuses, and a is the first refusal of a flux.
 use Rattle.passes.proofs.Stages.{never-accepted, Both, start, more, stop, finish, Stores, empty, stored, filled}
 use Rattle.predictor.specs.Prediction.{flow, predictedAt}
 use Rattle.coupling.specs.Grid.{grid}

@@ -1,4 +1,4 @@
--- `simple::inner::prediction::predicted_flux` meets its contract.
+-- `predictor::inner::prediction::predicted_flux` meets its contract.
 use Rattle.passes.proofs.Stages.{settled}
 use denote.Ref.{now}
 use lib.ListN.{length}

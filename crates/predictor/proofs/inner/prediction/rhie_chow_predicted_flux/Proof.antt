@@ -1,4 +1,4 @@
--- `simple::inner::prediction::rhie_chow_predicted_flux` meets its contract.
+-- `predictor::inner::prediction::rhie_chow_predicted_flux` meets its contract.
 use Rattle.predictor.specs.Prediction.{Flow, flow, predictionAnswer, predictedFluxes}
 use Rattle.coupling.specs.Grid.{Grid, grid}
 use Rattle.mesh.specs.Pass.{handedOut}

@@ -1,4 +1,4 @@
--- `simple::inner::prediction::side_at` meets its contract.
+-- `predictor::inner::prediction::side_at` meets its contract.
 use borrow.Author.Needs.{needs}
 use Rattle.predictor.proofs.inner.prediction.side_at.Statement.{statement}
 use Rattle.predictor.proofs.inner.prediction.side_at.Tie as tie

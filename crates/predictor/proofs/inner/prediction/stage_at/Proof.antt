@@ -1,4 +1,4 @@
--- `simple::inner::prediction::stage_at` meets its contract: a face with one cell keeps its wall flux.
+-- `predictor::inner::prediction::stage_at` meets its contract: a face with one cell keeps its wall flux.
 use Rattle.passes.specs.Staged.{lateOf, staged, storedAt}
 use Rattle.predictor.specs.Prediction.{predictedAt}
 use Rattle.predictor.specs.Coefficients.{internalAt}

@@ -19,7 +19,7 @@ const MEASUREMENTS: usize = 7;
 
 pub fn run(port: &Port) {
     println!(
-        "best of {MEASUREMENTS} measurements of {} ms or more",
+        "best of {MEASUREMENTS} measurements of {} ms or more, of both sides in turn",
         LEAST.as_millis()
     );
     root(port);
@@ -42,9 +42,52 @@ pub fn run(port: &Port) {
         );
         println!("{:42} {:>8} {:>8} {:>8}", "", "Rust", "port", "ratio");
         for entry in Entry::ALL {
-            entry_times(port, entry, &lent);
+            let times = entry_times(port, entry, &lent);
+            println!("{:42} {}", entry.name(), row(times));
         }
     }
+    growth(port);
+}
+
+/// The step on meshes of growing size, and what is lent for it.
+fn growth(port: &Port) {
+    println!(
+        "\nthe step, ns per face, and bytes of all slices that are lent for it, inputs and outputs, per face; \
+         the port\nallocates nothing\n{:22} {:>7} {:>7} {:>8} {:>8} {:>8} {:>7}",
+        "", "cells", "faces", "Rust", "port", "ratio", "bytes"
+    );
+    let squares = [[8, 8], [16, 16], [32, 32], [64, 64], [127, 129]].map(|[columns, rows]| {
+        (
+            format!("{columns}x{rows} quads"),
+            makers::quads(columns, rows),
+        )
+    });
+    let cubes = [[3, 3, 3], [5, 5, 5], [8, 8, 8], [13, 13, 13], [20, 21, 26]]
+        .map(|[x, y, z]| (format!("{x}x{y}x{z} hexes"), makers::hexes(x, y, z)));
+    for (name, made) in squares.into_iter().chain(cubes) {
+        let lent = ordinary(&made);
+        let times = entry_times(port, Entry::Step, &lent);
+        let inputs = Entry::Step.inputs().iter();
+        let words: usize = inputs
+            .chain(Entry::Step.outputs())
+            .map(|&part| lent.due(part).expect("good input"))
+            .sum();
+        let faces = lent.counts.faces;
+        println!(
+            "{name:22} {:7} {faces:7} {} {:7.0}",
+            lent.counts.cells,
+            row(times),
+            8.0 * words as f64 / faces as f64
+        );
+    }
+}
+
+/// The two times and their ratio.
+fn row([rust, port]: [Option<f64>; 2]) -> String {
+    let ratio = rust.zip(port).map(|(rust, port)| port / rust);
+    let cells = [rust, port, ratio];
+    let shown = cells.map(|cell| cell.map_or("-".to_owned(), |time| format!("{time:.2}")));
+    shown.map(|cell| format!("{cell:>8}")).join(" ")
 }
 
 /// Roots of random numbers of any exponent.
@@ -60,7 +103,7 @@ fn root(port: &Port) {
                 black_box(sqrt(black_box(x)));
             }
         };
-        nanoseconds(&mut walk) / arguments.len() as f64
+        least([&mut walk])[0] / arguments.len() as f64
     };
     let machine = per_call(&|x: f64| x.sqrt());
     match port.sqrt {
@@ -87,20 +130,19 @@ fn ordinary(made: &makers::Made) -> Lent {
     }
 }
 
-fn entry_times(port: &Port, entry: Entry, lent: &Lent) {
+/// Nanoseconds per face, of the Rust and of the port where it is linked.
+fn entry_times(port: &Port, entry: Entry, lent: &Lent) -> [Option<f64>; 2] {
     let faces = lent.counts.faces as f64;
-    let rust = nanoseconds(&mut rust_call(entry, lent)) / faces;
+    let mut rust = rust_call(entry, lent);
     match port.call(entry) {
         Some(call) => {
             let mut outputs = patterned(entry, lent);
             let mut repeated = || {
                 black_box(call(black_box(lent), &mut outputs));
             };
-            let ours = nanoseconds(&mut repeated) / faces;
-            let ratio = ours / rust;
-            println!("{:42} {rust:8.2} {ours:8.2} {ratio:8.2}", entry.name());
+            least([&mut rust, &mut repeated]).map(|time| Some(time / faces))
         }
-        None => println!("{:42} {rust:8.2} {:>8} {:>8}", entry.name(), "-", "-"),
+        None => [Some(least([&mut rust])[0] / faces), None],
     }
 }
 
@@ -184,17 +226,19 @@ fn rust_call(entry: Entry, lent: &Lent) -> Box<dyn FnMut()> {
     }
 }
 
-/// The least time of one run.
-fn nanoseconds(work: &mut dyn FnMut()) -> f64 {
-    let mut best = f64::INFINITY;
+/// The least time of one run of each, measured in turn so that what slows the machine slows all.
+fn least<const N: usize>(mut works: [&mut dyn FnMut(); N]) -> [f64; N] {
+    let mut best = [f64::INFINITY; N];
     for _ in 0..MEASUREMENTS {
-        let start = Instant::now();
-        let mut runs = 0;
-        while start.elapsed() < LEAST {
-            work();
-            runs += 1;
+        for (work, best) in works.iter_mut().zip(&mut best) {
+            let start = Instant::now();
+            let mut runs = 0;
+            while start.elapsed() < LEAST {
+                work();
+                runs += 1;
+            }
+            *best = best.min(start.elapsed().as_nanos() as f64 / f64::from(runs));
         }
-        best = best.min(start.elapsed().as_nanos() as f64 / f64::from(runs));
     }
     best
 }

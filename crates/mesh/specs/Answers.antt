@@ -7,14 +7,6 @@ use Rattle.mesh.specs.declared.Answer.the-variants.{Accepted, Refused}
 use Rattle.mesh.specs.declared.Found.{Found}
 use Rattle.mesh.specs.declared.Found.the-variants.{Nothing, At}
 
-abbrev pub numberOf : Answer → ℕ
-numberOf Accepted = 0
-numberOf (Refused k i) = k
-
-abbrev pub indexOf : Answer → ℕ
-indexOf Accepted = 0
-indexOf (Refused k i) = i
-
 -- a test that has to pass, or refusal k with index 0
 unfoldable pub pass : ℕ → Bool → Answer
 pass k true = Accepted

@@ -1,9 +1,5 @@
 // What the list says of a call, and whether the call's answer and outputs agree with it.
-ghost use Prim.Native.Nat.{ℕ, _<_, _≤_};
-ghost use mathlib.Core.Path.{_≡_};
-ghost use mathlib.Core.Bool.{true};
-ghost use lib.ListN.{getD};
-ghost use lib.Ieee.{nan, binary64, ofBits};
+ghost use Prim.Native.Nat.{_≤_};
 use crate::FILL;
 use crate::NOWHERE;
 use crate::ROOM;
@@ -45,39 +41,6 @@ fn is_among(slice: &[usize], n: usize) -> bool {
         i += 1;
     }
     i < slice.len()
-}
-
-// The word at i of what is expected, or `rest` past its end.
-fn expected_at(expected: &[usize], rest: usize, i: usize) -> usize
-    ensures { λ r. ⌜ r ≡ getD (now (expected .entry)) i rest ⌝ }
-{
-    if i < expected.len() {
-        return expected[i];
-    }
-    rest
-}
-
-// Whether the first n numbers of an output are what is expected, number by number.
-fn same_numbers(out: &[usize; ROOM], n: usize, expected: &[usize], rest: usize) -> bool
-    requires { ⌜ n ≤ 1024 ⌝ }
-    ensures { λ r. ⌜ ((r ≡ true) → (i : ℕ) → i < n → getD (now (out .entry)) i 0 ≡ getD (now (expected .entry)) i rest) ⌝ }
-{
-    let mut i = 0;
-    while i < n && out[i] == expected_at(expected, rest, i) {
-        i += 1;
-    }
-    i == n
-}
-
-fn same_reals(out: &[f64; ROOM], n: usize, expected: &[usize], rest: usize) -> bool
-    requires { ⌜ n ≤ 1024 ⌝ }
-    ensures { λ r. ⌜ ((r ≡ true) → (i : ℕ) → i < n → getD (now (out .entry)) i nan ≡ ofBits binary64 (getD (now (expected .entry)) i rest)) ⌝ }
-{
-    let mut i = 0;
-    while i < n && pattern::is_of(expected_at(expected, rest, i) as u64, out[i]) {
-        i += 1;
-    }
-    i == n
 }
 
 impl Verdict {
@@ -145,12 +108,12 @@ impl Verdict {
     pub fn has_numbers(self, words: &[usize], k: usize, out: &[usize; ROOM]) -> bool {
         let n = self.length(words, k);
         let expected = part(words, self.place(words, k), self.listed(n));
-        same_numbers(out, n, expected, self.rest())
+        pattern::inner::same_numbers(out, n, expected, self.rest())
     }
 
     pub fn has_reals(self, words: &[usize], k: usize, out: &[f64; ROOM]) -> bool {
         let n = self.length(words, k);
         let expected = part(words, self.place(words, k), self.listed(n));
-        same_reals(out, n, expected, self.rest())
+        pattern::inner::same_reals(out, n, expected, self.rest())
     }
 }

@@ -1,4 +1,4 @@
--- `replay::verdict::same_reals` meets its contract. The loop's invariant: the numbers passed have the patterns expected. Assumes nothing.
+-- `pattern::inner::same_reals` meets its contract. The loop's invariant: the numbers passed have the patterns expected. Assumes nothing.
 use mathlib.Core.Path.{_≡_, sym, ap, subst, _∙_}
 use mathlib.Core.Logic.{⊎-elim}
 use Prim.Native.Nat.{ℕ, _-_, _≤_, _<_}
@@ -8,8 +8,8 @@ use lib.ListN.{getD}
 use lib.Ieee.{nan, binary64, ofBits}
 use borrow.Author.Needs.{needs}
 use borrow.Author.Tests.{eqb-true}
-use Rattle.replay.proofs.verdict.same_reals.Statement.{statement}
-use Rattle.replay.proofs.verdict.same_reals.Tie as tie
+use Rattle.pattern.proofs.inner.same_reals.Statement.{statement}
+use Rattle.pattern.proofs.inner.same_reals.Tie as tie
 
 abbrev Inv-loop : tie.InvT-loop
 Inv-loop out n expected rest i₀ i = (i ≤ n) × ((j : ℕ) → j < i → getD out j nan ≡ ofBits binary64 (getD expected j rest))
@@ -26,8 +26,8 @@ expected-at-requires c κs = search needs
 mul-is-of : tie.Need-mul-is-of Inv-loop μ-loop
 mul-is-of c = search needs
 
-element-copy-out-is-of : tie.Need-element-copy-out-is-of Inv-loop μ-loop
-element-copy-out-is-of c = search needs
+shared-slice-read-is-of : tie.Need-shared-slice-read-is-of Inv-loop μ-loop
+shared-slice-read-is-of c = search needs
 
 is-of-requires : tie.Need-is-of-requires Inv-loop μ-loop
 is-of-requires c κs = search needs
@@ -41,7 +41,8 @@ loop-less c = search needs
 loop-again : tie.Need-loop-again Inv-loop μ-loop
 loop-again c =
     let h = c .before .before .before .before .before in
-    let a = h .before .before .args in
+    let s : tie.Start Inv-loop μ-loop = search in
+    let a = s .args in
     let here : getD (a .out .now) (h .loop .i) nan ≡ ofBits binary64 (getD (a .expected .now) (h .loop .i) (a .rest)) = c .before .is-of .ensures .0 (c .if1 .taken) ∙ ap (ofBits binary64) (c .before .before .before .expected-at .ensures) in (
       omega arith,
       λ j l.
@@ -50,8 +51,8 @@ loop-again c =
 
 returns : tie.Need-returns Inv-loop μ-loop
 returns c =
-    let n = c .before .before .before .args .n in
-    λ e j l. c .before .loop .inv .1 j (omega (arith, eqb-true (c .before .loop .i) n e))
+    let s : tie.Start Inv-loop μ-loop = search in
+    λ e j l. c .before .loop .inv .1 j (omega (arith, eqb-true (c .before .loop .i) (s .args .n) e))
 
 pub same-reals-spec : {M : Type 1} → statement M
 same-reals-spec =
@@ -62,7 +63,7 @@ same-reals-spec =
     loop-holds
     expected-at-requires
     mul-is-of
-    element-copy-out-is-of
+    shared-slice-read-is-of
     is-of-requires
     add-i
     loop-less

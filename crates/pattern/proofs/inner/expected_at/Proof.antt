@@ -1,4 +1,4 @@
--- `replay::verdict::expected_at` meets its contract: within a list the default is of no account. Assumes nothing.
+-- `pattern::inner::expected_at` meets its contract: within a list the default is of no account. Assumes nothing.
 use mathlib.Core.Path.{_≡_, sym, ap, _∙_}
 use mathlib.Core.List.{List}
 use Prim.Native.Nat.{ℕ, suc, _<_}
@@ -6,8 +6,8 @@ use native.Mathlib.Nat.{le-of-lt}
 use lib.ListN.{length, getD, take, drop, List·getD-eq-default}
 use lib.Seq.{split-at, getD-at, length-take-le}
 use borrow.Author.Needs.{needs}
-use Rattle.replay.proofs.verdict.expected_at.Statement.{statement}
-use Rattle.replay.proofs.verdict.expected_at.Tie as tie
+use Rattle.pattern.proofs.inner.expected_at.Statement.{statement}
+use Rattle.pattern.proofs.inner.expected_at.Tie as tie
 
 within : (l : List ℕ) (i d e : ℕ) → i < length l → getD l i d ≡ getD l i e
 within l i d e h =

@@ -93,10 +93,10 @@ signless-lo false true g e = sym e
 signless-lo false false g e = refl
 
 -- ---- fractions with one denominator
-add-is : (a b c X Y L : ℕ) → a * L ≡ X * c → b * L ≡ Y * c → (a + b) * L ≡ (X + Y) * c
+pub add-is : (a b c X Y L : ℕ) → a * L ≡ X * c → b * L ≡ Y * c → (a + b) * L ≡ (X + Y) * c
 add-is a b c X Y L p q = omega arith
 
-sub-is : (a b c X Y L : ℕ) → a * L ≡ X * c → b * L ≡ Y * c → (b - a) * L ≡ (Y - X) * c
+pub sub-is : (a b c X Y L : ℕ) → a * L ≡ X * c → b * L ≡ Y * c → (b - a) * L ≡ (Y - X) * c
 sub-is a b c X Y L p q =
     mul-comm (b - a) L
     ∙ mul-sub L b a
@@ -105,7 +105,7 @@ sub-is a b c X Y L p q =
     ∙ sym (mul-sub c Y X)
     ∙ mul-comm c (Y - X)
 
-le-is : (a b c X Y L : ℕ) → 0 < c → a * L ≡ X * c → b * L ≡ Y * c → a ≤ b → X ≤ Y
+pub le-is : (a b c X Y L : ℕ) → 0 < c → a * L ≡ X * c → b * L ≡ Y * c → a ≤ b → X ≤ Y
 le-is a b c X Y L C p q h = le-of-mul-le-mul-right (le-trans (le-of-eq (sym p)) (le-trans (mul-le-mul-right L h) (le-of-eq q))) C
 
 pub restored : (X Y : ℕ) → X ≤ Y → Y - X + X ≡ Y
@@ -176,10 +176,10 @@ module _ (f : Format) (a b c X Y : ℕ) (C : 0 < c) (p : a * 2 ^ low f ≡ X * c
 
 -- ---- the law
 -- a fraction xm / de that is X units, over the denominator de * dd
-over-left : (xm de dd X L : ℕ) → xm * L ≡ X * de → xm * dd * L ≡ X * (de * dd)
+pub over-left : (xm de dd X L : ℕ) → xm * L ≡ X * de → xm * dd * L ≡ X * (de * dd)
 over-left xm de dd X L e = mul-right-comm xm dd L ∙ ap (λ (z : ℕ). z * dd) e ∙ mul-assoc X de dd
 
-over-right : (ym de dd Y L : ℕ) → ym * L ≡ Y * dd → ym * de * L ≡ Y * (de * dd)
+pub over-right : (ym de dd Y L : ℕ) → ym * L ≡ Y * dd → ym * de * L ≡ Y * (de * dd)
 over-right ym de dd Y L e = mul-right-comm ym de L ∙ ap (λ (z : ℕ). z * de) e ∙ mul-assoc Y dd de ∙ ap (λ (z : ℕ). Y * z) (mul-comm dd de)
 
 pub add-law : (f : Format) (x y : Float) → T (fits f x) → T (fits f y) → T (finite (add f x y))

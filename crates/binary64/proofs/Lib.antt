@@ -5,6 +5,7 @@ pub mod Integers
 mod Grid
 pub mod Value
 pub mod Addition
+mod Rounded
 pub mod Summation
 pub mod Sign
 pub mod Opposites

@@ -4,3 +4,6 @@ mod Rounding
 pub mod Patterns
 pub mod Middles
 pub mod Returned
+mod Amounts
+mod Settled
+mod Placed

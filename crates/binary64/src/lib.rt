@@ -4,7 +4,7 @@ ghost use mathlib.Core.Path.{_≡_};
 ghost use Rattle.binary64.specs.Numbers.{isFinite, isUsable, isFar, magnitude, larger};
 ghost use Rattle.binary64.specs.Root.{root};
 
-mod line;
+mod parabola;
 mod root;
 
 // 2^-52.
@@ -70,10 +70,7 @@ pub fn sqrt(x: f64) -> f64
         return 0.0 / 0.0;
     }
     if b >= 0x10_0000_0000_0000 {
-        return root::scaled(
-            b % 0x10_0000_0000_0000 + 0x10_0000_0000_0000,
-            (b >> 52) + 1073,
-        );
+        return root::normal(b);
     }
     if b == 0 {
         return x;

@@ -1,13 +1,15 @@
-// The significand of a square root, as a whole number of 53 digits: a guess in floating point, an
-// exact check of it in whole numbers, and digit by digit where the check does not pass.
+// The square root of a number above zero: a guess in floating point and a test of it in floating point,
+// which about one number in 230 does not pass; for that one the significand as a whole number of 53 digits,
+// by an exact check of the guess, and digit by digit where the check does not pass.
 ghost use mathlib.Core.Path.{_≡_};
 ghost use mathlib.Core.Bool.{cond};
 ghost use mathlib.Core.Logic.{_⊎_};
-ghost use Prim.Native.Nat.{_+_, _*_, _^_, _<_, _≤_};
-ghost use lib.Ieee.{binary64};
+ghost use Prim.Native.Nat.{_+_, _*_, _/_, _%_, _^_, _<_, _≤_};
+ghost use lib.Dec.{T};
+ghost use lib.Ieee.{binary64, fits, le, mul};
 ghost use Rattle.binary64.specs.Root.{nearestRoot};
-ghost use Rattle.binary64.specs.Significand.{Near};
-use crate::line;
+ghost use Rattle.binary64.specs.Significand.{Near, Start, RootBits, rest, margin};
+use crate::parabola;
 
 // The whole number nearest to the root of a * 2^52, two binary digits of the radicand and one of
 // the root a turn: q is the root so far, and rest what is left of the digits passed.
@@ -63,22 +65,67 @@ fn corrected(a: u64, h: u64) -> u64
     h + one_if(none + h < difference) - one_if(difference + h <= none)
 }
 
-// A guess at the same number for a * 2^odd: a line near √x, and two steps of Heron's, each of which
-// doubles the root besides. The digits are those of a float of four times √x.
+// A number of 26 digits near the root of y, which is from 1 up to 4. Both go by their bit patterns.
+fn start(bits: u64) -> u64
+    requires { ⌜ 0x3ff0_0000_0000_0000 ≤ bits ⌝ ∗ ⌜ bits < 0x4010_0000_0000_0000 ⌝ }
+    ensures { λ r. ⌜ Start r ⌝ }
+{
+    let y = f64::from_bits(bits);
+    let i = (bits >> 48) % 32;
+    let r = parabola::constant(i) + (parabola::linear(i) - parabola::square(i) * y) * y;
+    if r != r {
+        return 0x3ff0_0000_0000_0000;
+    }
+    f64::to_bits(r) % 0x10_0000_0000_0000 / 0x800_0000 * 0x800_0000 + 0x3ff0_0000_0000_0000
+}
+
+// A step of Halley's from s towards the root of y, which triples the digits.
+fn refined(s: f64, y: f64) -> f64
+    ensures { λ r. ⌜ T (fits binary64 r) ⌝ }
+{
+    let square = s * s;
+    s + (s + s) * (y - square) / (square * 3.0 + y)
+}
+
+// Whether what is left of y without the square of g is less than a last digit's worth, s being near g. The
+// square of s, a number of 26 digits, is exact, and g * g - s * s is (g - s) * (s + g).
+fn settles(y: f64, s: f64, g: f64) -> bool
+    ensures { λ r. ⌜ r ≡ le (mul binary64 (rest y s g) (rest y s g)) (mul binary64 (mul binary64 s s) margin) ⌝ }
+{
+    let square = s * s;
+    let left = (y - square) - (g - s) * (s + g);
+    left * left <= square * f64::from_bits(0x396f_e000_0000_0000)
+}
+
+// The root of y, from 1 up to 4, where the guess settles it, or else 0. Both go by their bit patterns.
+fn quick(bits: u64) -> u64
+    requires { ⌜ 0x3ff0_0000_0000_0000 ≤ bits ⌝ ∗ ⌜ bits < 0x4010_0000_0000_0000 ⌝ }
+    ensures { λ r. ⌜ (r ≡ 0) ⊎ RootBits bits r ⌝ }
+{
+    let near = start(bits);
+    let s = f64::from_bits(near);
+    let y = f64::from_bits(bits);
+    let g = refined(s, y);
+    if settles(y, s, g) {
+        let root = f64::to_bits(g);
+        if root >> 38 == near >> 38 {
+            return root;
+        }
+    }
+    0
+}
+
+// A guess at the whole number nearest to the root of a * 2^odd * 2^52.
 fn guess(a: u64, odd: u64) -> u64
     requires { ⌜ 2 ^ 52 ≤ a ⌝ ∗ ⌜ a < 2 ^ 53 ⌝ ∗ ⌜ odd < 2 ⌝ }
     ensures { λ r. ⌜ 2 ^ 52 ≤ r ⌝ ∗ ⌜ r < 2 ^ 53 ⌝ }
 {
     let bits = 0x3fe0_0000_0000_0000 + odd * 0x10_0000_0000_0000 + a;
-    let x = f64::from_bits(bits);
-    let i = (bits >> 48) % 32;
-    let r = line::start(i) + line::slope(i) * x;
-    let twice = r + x / r;
-    let four = twice + 4.0 * x / twice;
-    if four != four {
+    let g = refined(f64::from_bits(start(bits)), f64::from_bits(bits));
+    if g != g {
         return 0x10_0000_0000_0000;
     }
-    f64::to_bits(four) % 0x10_0000_0000_0000 + 0x10_0000_0000_0000
+    f64::to_bits(g) % 0x10_0000_0000_0000 + 0x10_0000_0000_0000
 }
 
 // The whole number nearest to the root of a * 2^odd * 2^52.
@@ -101,4 +148,20 @@ pub(crate) fn scaled(a: u64, e: u64) -> f64
 {
     let h = significand(a, e % 2);
     f64::from_bits((e - 52) / 2 * 0x10_0000_0000_0000 + h)
+}
+
+// The root of a normal number by its bit pattern. Twice the power of two that is set aside is even.
+pub(crate) fn normal(b: u64) -> f64
+    requires { ⌜ 2 ^ 52 ≤ b ⌝ ∗ ⌜ b < 0x7ff0_0000_0000_0000 ⌝ }
+    ensures { λ r. ⌜ r ≡ nearestRoot binary64 ((b % 2 ^ 52 + 2 ^ 52) * 2 ^ (b / 2 ^ 52 + 1073)) ⌝ }
+{
+    let t = b + 0x10_0000_0000_0000;
+    let g = quick(t % 0x20_0000_0000_0000 + 0x3ff0_0000_0000_0000);
+    if g != 0 {
+        return f64::from_bits((t >> 53) * 0x10_0000_0000_0000 + g - 0x2000_0000_0000_0000);
+    }
+    scaled(
+        b % 0x10_0000_0000_0000 + 0x10_0000_0000_0000,
+        (b >> 52) + 1073,
+    )
 }

@@ -20,7 +20,7 @@ use Rattle.binary64.specs.Root.{wholeRoot, nearestRoot, root, rootIn, Ne
 use Rattle.binary64.specs.Significand.{Near}
 use Rattle.binary64.specs.Units.{count}
 use Rattle.binary64.proofs.Value.{count-of}
-use Rattle.binary64.proofs.root.Squares.{next-square, power, halve}
+use Rattle.binary64.proofs.root.Squares.{next-square, square-lt, power, halve}
 use Rattle.binary64.proofs.root.Rounding.{root-law, near-low, near-high, nearestRoot-near, ofBits-at, toBits-odd, double-square, doubled, regroup}
 use Rattle.binary64.proofs.root.Patterns.{usable-bits, Positive, root-of, normal-is, subnormal-is, shift-of}
 
@@ -54,9 +54,6 @@ next-up h k lo hi kl = go (eq-or-lt-of-le hi)
     go (inr l) = ap (λ (n : ℕ). count binary64 (ofBits binary64 n)) along ∙ count-at (h + 1) k (omega arith) (omega arith) (omega arith)
 
 -- ---- the two middles
-
-square-lt : (x y : ℕ) → x < y → x * x < y * y
-square-lt x y h = lt-of-le-of-lt (mul-le-mul-left x (le-of-lt h)) (mul-lt-mul-of-pos-right h (omega arith))
 
 upper : (M h k : ℕ) → M ≤ h * h + h → 4 * (M * (2 ^ k * 2 ^ k)) < (h * 2 ^ k + (h + 1) * 2 ^ k) * (h * 2 ^ k + (h + 1) * 2 ^ k)
 upper M h k u =

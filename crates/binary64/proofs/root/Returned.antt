@@ -21,16 +21,17 @@ use Rattle.binary64.proofs.root.Rounding.{size-exact, nearestRoot-near,
 use Rattle.binary64.proofs.root.Patterns.{root-positive}
 
 -- the square of M * 2 ^ (537 + i) units is M * M * 2 ^ (i + i) units
-square-units : (M i : ℕ) → M * 2 ^ (537 + i) * (M * 2 ^ (537 + i)) * 2 ^ 1074 ≡ M * M * 2 ^ (i + i) * (2 ^ 1074 * 2 ^ 1074)
-square-units M i =
-    ap (λ (x : ℕ). x * 2 ^ 1074) (mul-mul-mul-comm M (2 ^ (537 + i)) M (2 ^ (537 + i)) ∙ ap (λ (x : ℕ). M * M * x) powers ∙ sym (mul-assoc (M * M) (2 ^ (i + i)) (2 ^ 1074)))
-    ∙ mul-assoc (M * M * 2 ^ (i + i)) (2 ^ 1074) (2 ^ 1074)
+pub square-at : (M i : ℕ) → M * 2 ^ (537 + i) * (M * 2 ^ (537 + i)) ≡ M * M * 2 ^ (i + i) * 2 ^ 1074
+square-at M i = mul-mul-mul-comm M (2 ^ (537 + i)) M (2 ^ (537 + i)) ∙ ap (λ (x : ℕ). M * M * x) powers ∙ sym (mul-assoc (M * M) (2 ^ (i + i)) (2 ^ 1074))
   where
     sums : (j : ℕ) → 537 + j + (537 + j) ≡ j + j + 1074
     sums j = omega arith
 
     powers : 2 ^ (537 + i) * 2 ^ (537 + i) ≡ 2 ^ (i + i) * 2 ^ 1074
     powers = sym (pow-add 2 (537 + i) (537 + i)) ∙ ap (λ (x : ℕ). 2 ^ x) (sums i) ∙ pow-add 2 (i + i) 1074
+
+square-units : (M i : ℕ) → M * 2 ^ (537 + i) * (M * 2 ^ (537 + i)) * 2 ^ 1074 ≡ M * M * 2 ^ (i + i) * (2 ^ 1074 * 2 ^ 1074)
+square-units M i = ap (λ (x : ℕ). x * 2 ^ 1074) (square-at M i) ∙ mul-assoc (M * M * 2 ^ (i + i)) (2 ^ 1074) (2 ^ 1074)
 
 -- what is left of it, q * 2 ^ c units, in the form that a root is taken of
 root-units : (q o i : ℕ) → q * 2 ^ (52 + o + (i + i)) * 2 ^ 1074 ≡ q * 2 ^ o * 2 ^ 52 * (2 ^ (537 + i) * 2 ^ (537 + i))
@@ -104,7 +105,7 @@ near-long : (S M q : ℕ) → 2 ^ 52 < M → M * M ≡ S → gap (q * 2 ^ 53) S 
 near-long S M q lo e h = record { above = subst (λ (x : ℕ). x < q * 2 ^ 1 * 2 ^ 52 + M) (sym e) (omega (arith, h, lo)); under = subst (λ (x : ℕ). q * 2 ^ 1 * 2 ^ 52 ≤ x + M) (sym e) (omega (arith, h, lo)) }
 
 -- how many digits S * 2 ^ j has
-digits-of : (S a j : ℕ) → 2 ^ a ≤ S → S < 2 ^ suc a → size (S * 2 ^ j) ≡ suc (a + j)
+pub digits-of : (S a j : ℕ) → 2 ^ a ≤ S → S < 2 ^ suc a → size (S * 2 ^ j) ≡ suc (a + j)
 digits-of S a j lo hi =
     size-exact (a + j) (S * 2 ^ j) (le-trans (le-of-eq (pow-add 2 a j)) (mul-le-mul-right (2 ^ j) lo))
     (lt-of-lt-of-le (mul-lt-mul-of-pos-right hi (pow-pos j)) (le-of-eq (sym (pow-add 2 (suc a) j) ∙ ap (λ (x : ℕ). 2 ^ x) (next a j))))

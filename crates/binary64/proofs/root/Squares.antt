@@ -3,7 +3,7 @@ use mathlib.Core.Path.{_≡_, refl, sym, ap, _∙_, subst}
 use mathlib.Core.Bool.{Bool, true, false, not, cond}
 use lib.Dec.{T}
 use Prim.Native.Nat.{ℕ, zero, suc, _+_, _-_, _*_, _/_, _%_, _^_, _≤_, _<_}
-use native.Mathlib.Nat.{lt-of-lt-of-le, add-mul, mul-add, mul-mul-mul-comm, mul-assoc, pow-suc, mul-div-cancel, mul-le-mul, mul-le-mul-right, mul-le-mul-left, add-zero, mul-comm, mul-right-comm, mul-left-comm}
+use native.Mathlib.Nat.{le-of-lt, lt-of-lt-of-le, lt-of-le-of-lt, mul-lt-mul-of-pos-right, add-mul, mul-add, mul-mul-mul-comm, mul-assoc, pow-suc, mul-div-cancel, mul-le-mul, mul-le-mul-right, mul-le-mul-left, add-zero, mul-comm, mul-right-comm, mul-left-comm}
 use native.Mathlib.Numerals.{add-one}
 use native.Mathlib.Omega.{arith}
 use lib.Pow.{pow-mono, pow-pos}
@@ -21,6 +21,9 @@ next-square x =
 
 pub odd-square : (q : ℕ) → (q * 2 + 1) * (q * 2 + 1) ≡ q * q * 4 + q * 4 + 1
 odd-square q = omega (arith, next-square (q * 2), even-square q)
+
+pub square-lt : (x y : ℕ) → x < y → x * x < y * y
+square-lt x y h = lt-of-le-of-lt (mul-le-mul-left x (le-of-lt h)) (mul-lt-mul-of-pos-right h (omega arith))
 
 pub power : (n i : ℕ) → n ^ (i + 1) ≡ n ^ i * n
 power n i = ap (λ (j : ℕ). n ^ j) (add-one i) ∙ pow-suc n i

@@ -49,19 +49,13 @@ returns-3 c =
     let s = c .before .before .before in
     zero-over-zero ∙ sym (negative (bits s) (c .if3 .left) (bits-lt s)) ∙ ap (root) (back s)
 
-add-scaled : tie.Need-add-scaled
-add-scaled c = search needs
-
-add-scaled-2 : tie.Need-add-scaled-2
-add-scaled-2 c = search needs
-
-scaled-requires : tie.Need-scaled-requires
-scaled-requires c κs = search needs
+normal-requires : tie.Need-normal-requires
+normal-requires c κs = search needs
 
 returns-4 : tie.Need-returns-4
 returns-4 c =
     let s = c .before .before .before .before in
-    c .scaled .ensures ∙ sym (normal (bits s) (c .before .if4 .taken) (c .before .before .if2 .left)) ∙ ap (root) (back s)
+    c .normal .ensures ∙ sym (normal (bits s) (c .before .if4 .taken) (c .before .before .if2 .left)) ∙ ap (root) (back s)
 
 returns-5 : tie.Need-returns-5
 returns-5 c =
@@ -100,14 +94,14 @@ shl-scaled c = omega (arith, shifted c)
 sub-scaled : tie.Need-sub-scaled
 sub-scaled c = omega (arith, shifted c)
 
-scaled-requires-2 : tie.Need-scaled-requires-2
-scaled-requires-2 c κs = subst (λ (a : ℕ). (2 ^ 52 ≤ a) × ((a < 2 ^ 53) × ((1022 ≤ 1074 - z c) × (1074 - z c < 3120)))) (sym (as-is c)) (shifted c .2, (shifted c .3, (omega (arith, shifted c), omega (arith, shifted c))))
+scaled-requires : tie.Need-scaled-requires
+scaled-requires c κs = subst (λ (a : ℕ). (2 ^ 52 ≤ a) × ((a < 2 ^ 53) × ((1022 ≤ 1074 - z c) × (1074 - z c < 3120)))) (sym (as-is c)) (shifted c .2, (shifted c .3, (omega (arith, shifted c), omega (arith, shifted c))))
 
 returns-6 : tie.Need-returns-6
 returns-6 c =
     let d = c .before in
     let s = d .before .before .before .before in
-    c .scaled2 .ensures
+    c .scaled .ensures
     ∙ ap (λ (a : ℕ). nearestRoot binary64 (a * 2 ^ (1074 - z d))) (as-is d)
     ∙ sym (subnormal (b d) (z d) (some d) (below d) (omega (arith, shifted d)))
     ∙ ap (root) (back s)
@@ -115,4 +109,4 @@ returns-6 c =
 pub sqrt-spec : {M : Type 1} → statement M
 sqrt-spec =
     tie.close
-    (tie.spec returns float-to-bits-b returns-2 returns-3 add-scaled add-scaled-2 scaled-requires returns-4 returns-5 cast-z sub-z shl-scaled sub-scaled scaled-requires-2 returns-6)
+    (tie.spec returns float-to-bits-b returns-2 returns-3 normal-requires returns-4 returns-5 cast-z sub-z shl-scaled sub-scaled scaled-requires returns-6)

@@ -1,6 +1,7 @@
--- `binary64::root::guess` meets its contract: the patterns that it makes are no NaN's. Assumes nothing.
+-- `root::guess` meets its contract: the patterns that it makes are no NaN's. Assumes nothing.
 use native.Mathlib.Omega.{arith}
 use Rattle.binary64.proofs.Bits.{no-nan-bits, equal-no-nan}
+use Rattle.binary64.proofs.root.Placed.{start-most}
 use borrow.Author.Needs.{needs}
 use Rattle.binary64.proofs.root.guess.Statement.{statement}
 use Rattle.binary64.proofs.root.guess.Tie as tie
@@ -14,14 +15,17 @@ add-bits c = search needs
 add-bits-2 : tie.Need-add-bits-2
 add-bits-2 c = search needs
 
-float-from-bits-x : tie.Need-float-from-bits-x
-float-from-bits-x c = no-nan-bits _ (omega arith)
-
 start-requires : tie.Need-start-requires
 start-requires c κs = search needs
 
-slope-requires : tie.Need-slope-requires
-slope-requires c κs = search needs
+float-from-bits-refined : tie.Need-float-from-bits-refined
+float-from-bits-refined c = no-nan-bits _ (start-most _ (c .start .ensures))
+
+float-from-bits-refined-2 : tie.Need-float-from-bits-refined-2
+float-from-bits-refined-2 c = no-nan-bits _ (omega arith)
+
+refined-requires : tie.Need-refined-requires
+refined-requires c κs = search needs
 
 returns : tie.Need-returns
 returns c = search needs
@@ -42,9 +46,10 @@ guess-spec =
     mul-bits
     add-bits
     add-bits-2
-    float-from-bits-x
     start-requires
-    slope-requires
+    float-from-bits-refined
+    float-from-bits-refined-2
+    refined-requires
     returns
     float-to-bits-result
     add-result

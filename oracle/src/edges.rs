@@ -1,4 +1,4 @@
-//! The cases of the program `edges` that call entries, with what the checks and the Rust answer: an
+//! The cases of the program `edges`, with what the checks and the Rust answer: an
 //! accepted call of each entry and one for each refusal that it can give. The tables here are those of
 //! `crates/edges/src/entries`, in the same order and by the same names.
 

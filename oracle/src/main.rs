@@ -25,7 +25,7 @@ usage: oracle COMMAND
   manifest                         what is built from the sources of FLURSYS: file, lines, SHA-256
   compare [--seed S] [--cases N]   the port against the Rust, on N meshes made at random and some by hand
   list                             the fixed list, for the repository's own tests
-  edges                            the lines of the program `edges` on calls of entries
+  edges                            the lines of the program `edges`
   bench                            times of both sides
   self-test [--seed S] [--cases N] the comparison tried on the Rust itself and on spoiled copies of it
   coverage-cases [--seed S] [--cases N] [--built]

@@ -1,8 +1,8 @@
--- `edges::large::chain` is safe and ends: the records left are the measure. Assumes nothing.
+-- `limits::large::chain` is safe and ends: the records left are the measure. Assumes nothing.
 use Prim.Native.Nat.{_-_, _≤_}
 use native.Mathlib.Omega.{arith}
-use Rattle.edges.proofs.large.chain.Statement.{statement}
-use Rattle.edges.proofs.large.chain.Tie as tie
+use Rattle.limits.proofs.large.chain.Statement.{statement}
+use Rattle.limits.proofs.large.chain.Tie as tie
 
 abbrev Inv-loop : tie.InvT-loop
 Inv-loop records₀ r₀ records r = 1 ≤ r

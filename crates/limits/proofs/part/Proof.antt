@@ -1,10 +1,10 @@
--- `edges::part` meets its contract. Assumes nothing.
+-- `limits::part` meets its contract. Assumes nothing.
 use mathlib.Core.Path.{sym}
 use native.Mathlib.Nat.{le-of-lt}
 use borrow.Author.Needs.{needs}
 use lib.Seq.{length-take-le, take-all}
-use Rattle.edges.proofs.part.Statement.{statement}
-use Rattle.edges.proofs.part.Tie as tie
+use Rattle.limits.proofs.part.Statement.{statement}
+use Rattle.limits.proofs.part.Tie as tie
 
 slice-aggregate-result : tie.Need-slice-aggregate-result
 slice-aggregate-result c = sym (length-take-le _ _ (c .before .if1 .taken))

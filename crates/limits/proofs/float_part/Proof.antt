@@ -1,10 +1,10 @@
--- `edges::float_part` meets its contract. Assumes nothing.
+-- `limits::float_part` meets its contract. Assumes nothing.
 use mathlib.Core.Path.{sym}
 use native.Mathlib.Nat.{le-of-lt}
 use borrow.Author.Needs.{needs}
 use lib.Seq.{length-take-le, take-all}
-use Rattle.edges.proofs.float_part.Statement.{statement}
-use Rattle.edges.proofs.float_part.Tie as tie
+use Rattle.limits.proofs.float_part.Statement.{statement}
+use Rattle.limits.proofs.float_part.Tie as tie
 
 slice-aggregate-result : tie.Need-slice-aggregate-result
 slice-aggregate-result c = sym (length-take-le _ _ (c .before .if1 .taken))

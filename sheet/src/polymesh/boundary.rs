@@ -45,7 +45,12 @@ fn patch(tokens: &mut Tokens<'_>) -> Result<Patch, Mistake> {
     };
     let number = |key: &str| {
         let (line, word) = need(key)?;
-        let reason = |_| format!("expected a whole number to 65534 as `{key}`, found {}", quoted(word));
+        let reason = |_| {
+            format!(
+                "expected a whole number to 65534 as `{key}`, found {}",
+                quoted(word)
+            )
+        };
         index(word, "face").map_err(reason).at(line)
     };
     let (_, kind) = need("type")?;
@@ -56,17 +61,14 @@ fn patch(tokens: &mut Tokens<'_>) -> Result<Patch, Mistake> {
         name: name.to_string(),
         kind: kind.to_string(),
         faces: start..start + count,
-        neighbour: dictionary.get("neighbourPatch")?.map(|(_, word)| word.to_string()),
+        neighbour: dictionary
+            .get("neighbourPatch")?
+            .map(|(_, word)| word.to_string()),
     })
 }
 
 /// Sees that a sheet can say what the patch is.
-fn known(
-    dictionary: &Dictionary<'_>,
-    line: usize,
-    name: &str,
-    kind: &str,
-) -> Result<(), Mistake> {
+fn known(dictionary: &Dictionary<'_>, line: usize, name: &str, kind: &str) -> Result<(), Mistake> {
     let name = quoted(name);
     if kind != "cyclic" && (kind.starts_with("cyclic") || kind.starts_with("processor")) {
         let reason = format!("the patch {name} is of type {}: of the patches that join others only `cyclic` can be imported", quoted(kind));
@@ -74,7 +76,9 @@ fn known(
     }
     match dictionary.get("transform")? {
         Some((line, "rotational")) => {
-            let reason = format!("the cyclic patch {name} is rotational, and a link of a sheet is a translation");
+            let reason = format!(
+                "the cyclic patch {name} is rotational, and a link of a sheet is a translation"
+            );
             Err(Mistake::new(line, reason))
         }
         _ => Ok(()),

@@ -33,7 +33,10 @@ impl<'a> Dictionary<'a> {
             None => Ok(None),
             Some((_, line, words)) => match words[..] {
                 [word] => Ok(Some((*line, word))),
-                _ => Err(Mistake::new(*line, format!("expected one word after `{key}`"))),
+                _ => Err(Mistake::new(
+                    *line,
+                    format!("expected one word after `{key}`"),
+                )),
             },
         }
     }

@@ -67,7 +67,10 @@ fn count(tokens: &mut Tokens<'_>, what: &str) -> Result<Option<usize>, Mistake> 
     match word.parse::<usize>() {
         Ok(count) if is_number && count <= MOST => Ok(Some(count)),
         _ if is_number => {
-            let reason = format!("the list has {} {what}, and at most {MOST} are taken", quoted(word));
+            let reason = format!(
+                "the list has {} {what}, and at most {MOST} are taken",
+                quoted(word)
+            );
             Err(Mistake::new(spot.line, reason))
         }
         _ => Err(spot.unlike(&format!("the number of {what}"))),
@@ -108,7 +111,10 @@ pub fn point(tokens: &mut Tokens<'_>) -> Result<Vec3, Mistake> {
         *x = match word.parse::<f64>() {
             Ok(number) if number.is_finite() => number,
             _ => {
-                let reason = format!("expected a finite number in a point, found {}", quoted(word));
+                let reason = format!(
+                    "expected a finite number in a point, found {}",
+                    quoted(word)
+                );
                 return Err(Mistake::new(line, reason));
             }
         };

@@ -89,10 +89,13 @@ impl<'a> Entries<'a> {
 
     /// The entry of that word; `why` says what needs it.
     pub fn need(&self, name: &str, why: &str) -> Result<&Entry<'a>, Mistake> {
-        self.get(name).ok_or_else(|| {
-            let reason = format!("the sheet ends without `{name}`, which {why}");
-            Mistake::new(self.last_line, reason)
-        })
+        let missing = || self.lacks(&format!("`{name}`, which {why}"));
+        self.get(name).ok_or_else(missing)
+    }
+
+    /// That the sheet ends without something.
+    pub fn lacks(&self, what: &str) -> Mistake {
+        Mistake::new(self.last_line, format!("the sheet ends without {what}"))
     }
 
     /// Sees that an entry is not there; `why` says what it has no place in.

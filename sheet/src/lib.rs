@@ -6,6 +6,7 @@
 #![deny(missing_docs)]
 
 pub mod check;
+mod closed;
 mod conditions;
 mod entries;
 mod fields;

@@ -1,5 +1,6 @@
 //! The entries `points`, `faces`, `cells` and `face-order`: the mesh.
 
+use crate::closed::{unclosed, Unclosed};
 use crate::entries::{Entries, Entry};
 use crate::fields::{vector, width};
 use crate::items::{all, items, within, Item};
@@ -66,15 +67,18 @@ fn from_points(
         let corners = corners.iter().map(|word| index(word, "point"));
         faces.push(corners.collect::<Result<Vec<_>, _>>().at(item.line)?);
     }
-    Mesh::from_points(dimension, &positions, &faces, &owners, &neighbours).map_err(|error| {
-        let at = Lines {
-            points: &point_items,
-            faces: &face_items,
-            cells: &[],
-            heading: entry.line,
-        };
-        at.mistake(&error)
-    })
+    let at = Lines {
+        points: &point_items,
+        faces: &face_items,
+        cells: &[],
+        heading: entry.line,
+    };
+    let mesh = Mesh::from_points(dimension, &positions, &faces, &owners, &neighbours);
+    let mesh = mesh.map_err(|error| at.mistake(&error))?;
+    match unclosed(&mesh) {
+        None => Ok(mesh),
+        Some(found) => Err(at.unclosed(&found)),
+    }
 }
 
 fn from_geometry(entries: &Entries<'_>, dimension: Dimension, bare: bool) -> Result<Mesh, Mistake> {
@@ -214,6 +218,14 @@ impl Lines<'_> {
         };
         let line = line.map_or(self.heading, |item| item.line);
         Mistake::new(line, error.to_string())
+    }
+
+    /// A cell that is not closed, at the face that is turned or at its first one.
+    fn unclosed(&self, found: &Unclosed) -> Mistake {
+        let turned = found.turned.and_then(|face| self.faces.get(face));
+        let line = turned.or(self.first_of(found.cell));
+        let line = line.map_or(self.heading, |item| item.line);
+        Mistake::new(line, found.to_string())
     }
 
     /// The first face that names a cell.

@@ -175,15 +175,23 @@ impl Reader<'_> {
 
     /// The diagonal or the response, one of the two.
     fn momentum(&self) -> Result<Momentum, Mistake> {
-        if self.entries.get("momentum-response").is_none() {
-            let why = "or `momentum-response`, form step needs";
-            self.entries.need("momentum-diagonal", why)?;
-            return Ok(Momentum::Diagonal(self.cells("momentum-diagonal")?));
+        let given = ["momentum-diagonal", "momentum-response"].map(|name| self.entries.get(name));
+        match given {
+            [None, None] => {
+                let what =
+                    "`momentum-diagonal` or `momentum-response`, one of which `form step` needs";
+                Err(self.entries.lacks(what))
+            }
+            [Some(_), None] => Ok(Momentum::Diagonal(self.cells("momentum-diagonal")?)),
+            [None, Some(_)] => {
+                let response = self.cells("momentum-response")?;
+                Ok(Momentum::Response(CellField::new(self.mesh, response)))
+            }
+            [Some(diagonal), Some(_)] => {
+                let reason = "`momentum-diagonal` has no place beside `momentum-response`, which is its inverse";
+                Err(Mistake::new(diagonal.line, reason))
+            }
         }
-        let why = "has no place beside `momentum-response`, which is its inverse";
-        self.entries.refuse("momentum-diagonal", why)?;
-        let response = self.cells("momentum-response")?;
-        Ok(Momentum::Response(CellField::new(self.mesh, response)))
     }
 
     fn cells(&self, name: &str) -> Result<Vec<f64>, Mistake> {

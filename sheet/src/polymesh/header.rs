@@ -18,7 +18,7 @@ impl<'a> Dictionary<'a> {
             match spot.token {
                 Token::Mark('}') => return Ok(dictionary),
                 Token::Word(key) | Token::Text(key) => {
-                    let words = entry(tokens)?;
+                    let words = entry(tokens, key, spot.line)?;
                     dictionary.entries.push((key, spot.line, words));
                 }
                 Token::Mark(_) => return Err(spot.unlike("an entry or `}`")),
@@ -43,12 +43,13 @@ impl<'a> Dictionary<'a> {
 }
 
 /// What stands after a key, up to `;`, or nothing of a dictionary in braces.
-fn entry<'a>(tokens: &mut Tokens<'a>) -> Result<Vec<&'a str>, Mistake> {
+fn entry<'a>(tokens: &mut Tokens<'a>, key: &str, line: usize) -> Result<Vec<&'a str>, Mistake> {
     let mut words = Vec::new();
     let mut depth = 0_usize;
     let mut is_dictionary = false;
     loop {
-        let spot = tokens.need("`;`")?;
+        let endless = || Mistake::new(line, format!("the entry {} has no end `;`", quoted(key)));
+        let spot = tokens.next()?.ok_or_else(endless)?;
         match spot.token {
             Token::Word(word) | Token::Text(word) => words.push(word),
             Token::Mark(';') if depth == 0 => return Ok(words),

@@ -8,6 +8,8 @@ mod lists;
 mod tokens;
 mod write;
 
+use crate::closed::unclosed;
+use crate::mistake::Mistake;
 use boundary::{check_cover, patches, Patch};
 use engine::{BuildError, Dimension, Mesh, Vec3};
 use folder::Folder;
@@ -55,6 +57,11 @@ fn read(folder: &Folder<'_>) -> Result<PolyMesh, String> {
         &values(neighbours.clone()),
     );
     let mesh = mesh.map_err(|error| unbuilt(folder, &faces, &owners, &error))?;
+    if let Some(found) = unclosed(&mesh) {
+        let line = found.turned.and_then(|face| faces.get(face));
+        let mistake = Mistake::new(line.map_or(0, |(line, _)| *line), found.to_string());
+        return Err(folder.told("faces", &mistake));
+    }
     let links = cyclic::links(&patches, &mesh);
     Ok(PolyMesh {
         points,

@@ -1,0 +1,162 @@
+//! Both forms, against answers of the original Rust and against arithmetic worked out by hand.
+
+mod common;
+
+use common::{changed, correction_sheet, listed, metrics, printed, step_sheet, stored, told};
+
+/// The fluxes, the outflows and the metrics that are printed of a sheet.
+fn results(sheet: &str) -> [Vec<u64>; 3] {
+    let text = printed(sheet);
+    [
+        listed(&text, "face flux"),
+        listed(&text, "cell outflow"),
+        metrics(&text),
+    ]
+}
+
+/// Those of the stored step.
+fn stored_step() -> [Vec<u64>; 3] {
+    let outputs = stored("step", "as it stands");
+    [outputs[7].clone(), outputs[8].clone(), outputs[9].clone()]
+}
+
+#[test]
+fn a_step_gives_the_stored_bits() {
+    assert_eq!(results(&step_sheet()), stored_step());
+}
+
+#[test]
+fn a_diagonal_gives_the_step_of_its_inverse() {
+    let sheet = step_sheet().replace(
+        "momentum-response\n0  0.5\n1  0.25",
+        "momentum-diagonal\n0  2\n1  4",
+    );
+    assert!(sheet.contains("momentum-diagonal"));
+    assert_eq!(results(&sheet), stored_step());
+}
+
+/// Were two fields of one kind taken for each other, the stored bits would not come out.
+#[test]
+fn no_two_fields_of_a_step_can_be_exchanged() {
+    let cells = ["pressure\n", "momentum-response\n", "pressure-correction\n"];
+    for (first, second) in [(0, 1), (0, 2), (1, 2)] {
+        let exchanged = exchange(&step_sheet(), cells[first], cells[second]);
+        let (output, error, _) = told(&["-"], &exchanged);
+        assert_eq!(error, "");
+        assert!(!output.starts_with("face flux") || results(&exchanged) != stored_step());
+    }
+}
+
+#[test]
+fn no_two_fields_of_a_correction_can_be_exchanged() {
+    let exchanged = exchange(
+        &correction_sheet(),
+        "predicted-flux\n",
+        "face-coefficient\n",
+    );
+    let (output, error, status) = told(&["-"], &exchanged);
+    assert_eq!((error.as_str(), status), ("", 3), "{output}");
+}
+
+/// The sheet with two words in each other's place.
+fn exchange(sheet: &str, first: &str, second: &str) -> String {
+    let first = format!("\n\n{first}");
+    let second = format!("\n\n{second}");
+    assert!(sheet.matches(&first).count() == 1 && sheet.matches(&second).count() == 1);
+    let parked = sheet.replace(&first, "\n\n?\n").replace(&second, &first);
+    parked.replace("\n\n?\n", &second)
+}
+
+#[test]
+fn a_correction_gives_the_stored_bits() {
+    let [flux, outflow, _] = results(&correction_sheet());
+    assert_eq!(
+        flux,
+        stored("correct_face_flux_with_boundary", "as it stands")[0]
+    );
+    let f: Vec<f64> = flux.iter().map(|&bits| f64::from_bits(bits)).collect();
+    let by_hand = [
+        0.0 + f[0] + f[1] + f[3] + f[4],
+        0.0 - f[0] + f[2] + f[5] + f[6],
+    ];
+    assert_eq!(outflow, by_hand.map(f64::to_bits));
+}
+
+/// P8 of document 01 at face 0 and P9 at face 1, and the outflows and metrics of the two fluxes.
+#[test]
+fn a_correction_by_hand() {
+    let sheet = "form correction\ndimension 3\nfaces\n0 0 1\n1 1 -\ncells\n0 2\n1 4\n\
+        conditions\n1 fixed-value 1\npredicted-flux\n0 2\n1 0\nface-coefficient\n0 0.5\n1 2\n\
+        pressure-correction\n0 2\n1 4\n";
+    // 2 - 0.5 (4 - 2) = 1; 0 - 2 (1 - 4) = 6; outflows 1 and 6 - 1 = 5; mean square 13; 1/2 and 5/4
+    let [flux, outflow, metrics] = results(sheet);
+    assert_eq!(flux, [1.0, 6.0].map(f64::to_bits));
+    assert_eq!(outflow, [1.0, 5.0].map(f64::to_bits));
+    assert_eq!(metrics, [13f64.sqrt(), 1.25].map(f64::to_bits));
+}
+
+#[test]
+fn a_face_order_of_its_own_is_taken() {
+    let (sheet, _) = changed(&step_sheet(), "1  0 2 5 6", "0-1  0 2 5 6");
+    assert_eq!(told(&["-"], &sheet).2, 4);
+    let (sheet, _) = changed(&step_sheet(), "1  0 2 5 6", "1  6 0 5 2");
+    let read = sheet::Sheet::read(sheet.as_bytes()).unwrap();
+    // records of cell 1 come after the four of cell 0: face, next
+    assert_eq!(read.mesh.facing()[8..], [6, 6, 0, 7, 5, 8, 2, 0]);
+    assert_eq!(read.mesh.facing()[..8], [0, 2, 1, 3, 3, 4, 4, 0]);
+}
+
+#[test]
+fn a_uniform_field_and_a_default_are_taken_everywhere_else() {
+    let sheet = correction_sheet()
+        .replace(
+            "conditions\n4,5  zero-gradient\n",
+            "conditions default zero-gradient\n",
+        )
+        .replace(
+            "face-coefficient\n0     0.5\n1-2   1\n3     2\n4-5   0\n",
+            "face-coefficient default 0\n0 0.5\n1-2 1\n3 2\n",
+        );
+    assert_eq!(printed(&sheet), printed(&correction_sheet()));
+    let sheet = correction_sheet().replace("cells\n0-1  1\n", "cells\n0 1\n1 1\n");
+    let uniform = sheet.replace(
+        "pressure-correction\n0  1\n1  3\n",
+        "pressure-correction uniform 2\n",
+    );
+    let [flux, ..] = results(&uniform);
+    // no difference of corrections: only the fixed values change a flux, 0 - 2 (4 - 2) and -0.3 - 0.7 (2 - 2)
+    let expected = [2.0, -1.0, 1.0, -4.0, 0.1, 0.2, -0.3];
+    assert_eq!(flux, expected.map(f64::to_bits));
+}
+
+#[test]
+fn a_refusal_is_the_result_of_a_sheet() {
+    let (sheet, _) = changed(&step_sheet(), "6    fixed-value 2", "6    absent");
+    let expected =
+        "refusal 10 index 6 by step\nface 6 has one cell and neither a link nor a condition\n";
+    assert_eq!(
+        told(&["-"], &sheet),
+        (expected.to_string(), String::new(), 3)
+    );
+    let sheet = step_sheet().replace("momentum-response\n0  0.5", "momentum-diagonal\n0  0");
+    let (output, _, status) = told(&["-"], &sheet);
+    assert!(
+        output.starts_with("refusal 11 index 0 by momentum_inverse_diagonal\n"),
+        "{output}"
+    );
+    assert_eq!(status, 3);
+    let (sheet, _) = changed(&correction_sheet(), "0-1  1", "0-1  -1");
+    let (output, _, status) = told(&["-"], &sheet);
+    assert!(
+        output.starts_with("refusal 12 index 0 by continuity_metrics\n"),
+        "{output}"
+    );
+    assert_eq!(status, 3);
+    let (sheet, _) = changed(&correction_sheet(), "1 2  2 0", "1 1  2 0");
+    let (output, _, status) = told(&["-"], &sheet);
+    assert!(
+        output.starts_with("refusal 6 index 1 by correct_face_flux_with_boundary\n"),
+        "{output}"
+    );
+    assert_eq!(status, 3);
+}

@@ -29,6 +29,9 @@ impl Command {
             ["--polymesh", folder] => Ok(Self::Import {
                 folder: owned(folder),
             }),
+            ["-", "--check", "-"] | ["--check", "-", "-"] => {
+                Err("only one of the two files can be standard input".to_string())
+            }
             [file, "--check", fluxes] | ["--check", fluxes, file] => Ok(Self::Check {
                 file: owned(file),
                 fluxes: owned(fluxes),

@@ -10,6 +10,7 @@ mod closed;
 mod conditions;
 mod entries;
 mod fields;
+pub mod files;
 mod items;
 mod lines;
 mod mesh;

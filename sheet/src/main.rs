@@ -5,9 +5,8 @@ mod arguments;
 use arguments::{Command, USAGE};
 use sheet::check::{self, Mark};
 use sheet::run::Outcome;
-use sheet::{polymesh, report, Mistake, Sheet};
-use std::fs::File;
-use std::io::{self, Read, Write};
+use sheet::{files, polymesh, report, Mistake, Sheet};
+use std::io::{self, Write};
 use std::path::Path;
 use std::process::ExitCode;
 
@@ -18,9 +17,6 @@ const REFUSED: u8 = 3;
 const WRONG_FILE: u8 = 4;
 const WRONG_FLUX_FILE: u8 = 5;
 const NOT_WRITTEN: u8 = 6;
-
-/// The most bytes of a file that are read: sheets of the most faces and cells have less.
-const MOST_BYTES: u64 = 1 << 26;
 
 /// What is printed on standard output, or why not.
 struct Ending {
@@ -111,17 +107,9 @@ fn told(mistake: &Mistake, file: &str, status: u8) -> Ending {
 
 /// The bytes of a file, or of standard input where it is named `-`.
 fn bytes(file: &str) -> Result<Vec<u8>, Mistake> {
-    let whole = |reason: String| Mistake { line: 0, reason };
-    let mut bytes = Vec::new();
-    let read = match file {
-        "-" => io::stdin().take(MOST_BYTES + 1).read_to_end(&mut bytes),
-        _ => File::open(file).and_then(|file| file.take(MOST_BYTES + 1).read_to_end(&mut bytes)),
+    let bytes = match file {
+        "-" => files::standard_input(),
+        _ => files::contents(Path::new(file)),
     };
-    read.map_err(|error| whole(format!("cannot be read: {error}")))?;
-    if bytes.len() as u64 > MOST_BYTES {
-        return Err(whole(format!(
-            "has over {MOST_BYTES} bytes, the most that are read"
-        )));
-    }
-    Ok(bytes)
+    bytes.map_err(|reason| Mistake { line: 0, reason })
 }

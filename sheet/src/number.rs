@@ -41,6 +41,13 @@ fn hint(word: &str) -> String {
     if word.replace(',', ".").parse::<f64>().is_ok() {
         return ": a decimal has a point, not a comma".to_string();
     }
+    if word
+        .replace(['\u{2212}', '\u{2013}'], "-")
+        .parse::<f64>()
+        .is_ok()
+    {
+        return ": its minus is another sign than `-`".to_string();
+    }
     let digits = word.strip_prefix("0x").unwrap_or(word);
     if !digits.is_empty() && digits.bytes().all(|byte| byte.is_ascii_hexdigit()) {
         let count = digits.len();
@@ -160,6 +167,10 @@ mod tests {
         assert_eq!(
             told("0x3ff0000000000000"),
             "expected a number, found `0x3ff0000000000000`: bits are 16 hexadecimal digits and no more, these are 16 digits after `0x`"
+        );
+        assert_eq!(
+            told("\u{2212}1.5"),
+            "expected a number, found `\u{2212}1.5`: its minus is another sign than `-`"
         );
         assert_eq!(
             told("none"),

@@ -160,3 +160,57 @@ fn a_refusal_is_the_result_of_a_sheet() {
     );
     assert_eq!(status, 3);
 }
+
+/// Two unit cubes in space, by their geometry.
+const CUBES: &str = "\
+form step
+dimension 3
+faces
+0  0 1  1 0.5 0.5    1 0 0
+1  0 -  0 0.5 0.5   -1 0 0   -1 0 0
+2  1 -  2 0.5 0.5    1 0 0
+3  0 -  0.5 0.5 0    0 0 -1
+4  1 -  1.5 0.5 0    0 0 -1
+5  0 -  0.5 0.5 1    0 0 1
+6  1 -  1.5 0.5 1    0 0 1
+7  0 -  0.5 0 0.5    0 -1 0
+8  1 -  1.5 0 0.5    0 -1 0
+9  0 -  0.5 1 0.5    0 1 0   0 1 0
+10  1 -  1.5 1 0.5   0 1 0
+cells
+0  0.5 0.5 0.5  1
+1  1.5 0.5 0.5  1
+conditions uniform zero-gradient
+velocity uniform 3 0 0
+pressure uniform 7
+momentum-response uniform 0.5
+wall-flux default 0
+1  -3
+2   3
+pressure-correction
+0  0
+1  1
+";
+
+/// P7 of document 01: between unit cubes of response 0.5 the coefficient is 0.5. The flux of a velocity of 3 is
+/// 3, and the correction takes 0.5 (1 - 0) from it.
+#[test]
+fn a_step_in_space_by_hand() {
+    let [flux, outflow, metrics] = results(CUBES);
+    let mut expected = [0.0; 11];
+    expected[..3].copy_from_slice(&[2.5, -3.0, 3.0]);
+    assert_eq!(flux, expected.map(f64::to_bits));
+    assert_eq!(outflow, [-0.5, 0.5].map(f64::to_bits));
+    assert_eq!(metrics, [0.5, 0.5].map(f64::to_bits));
+}
+
+#[test]
+fn geometry_from_points_is_the_geometry_given() {
+    let folder = common::own("polymesh/two-cubes");
+    let text = sheet::polymesh::import(&folder).unwrap();
+    let [points, given] =
+        [text.as_str(), CUBES].map(|text| sheet::Sheet::read(text.as_bytes()).unwrap());
+    assert_eq!(points.mesh.geometry(), given.mesh.geometry());
+    assert_eq!(points.mesh.places(), given.mesh.places());
+    assert_eq!(points.mesh.adjacency(), given.mesh.adjacency());
+}

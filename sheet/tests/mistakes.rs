@@ -477,11 +477,7 @@ fn a_cell_that_is_not_closed() {
         "the faces of cell 0 do not close it: one is missing, or their points turn the wrong way",
     );
     let duct = shipped("duct-with-bend");
-    let line = duct
-        .lines()
-        .filter(|line| line.contains(" -  "))
-        .next_back()
-        .unwrap();
+    let line = duct.lines().rfind(|line| line.contains(" -  ")).unwrap();
     let words: Vec<&str> = line.split_whitespace().collect();
     let turned = format!("{} {} - {} {}", words[0], words[1], words[4], words[3]);
     told_there(
@@ -612,6 +608,10 @@ fn a_command_that_is_not_understood() {
         (
             &["--polymesh"],
             "expected a polyMesh folder after `--polymesh`",
+        ),
+        (
+            &["-", "--check", "-"],
+            "only one of the two files can be standard input",
         ),
     ] {
         let (output, error, status) = told(arguments, "");

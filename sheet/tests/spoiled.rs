@@ -180,20 +180,17 @@ fn spoiled_meshes() {
     let texts = files.map(|file| fs::read(own("polymesh/two-cubes").join(file)).unwrap());
     let folder = std::env::temp_dir().join(format!("juvandeer-spoiled-{}", std::process::id()));
     fs::create_dir_all(&folder).unwrap();
+    for (file, text) in files.iter().zip(&texts) {
+        fs::write(folder.join(file), text).unwrap();
+    }
     let mut numbers = Numbers(5);
     for round in 0..2_000 {
-        for (at, text) in texts.iter().enumerate() {
-            let is_spoiled = at == round % files.len();
-            let bytes = if is_spoiled {
-                spoiled(text, &mut numbers)
-            } else {
-                text.clone()
-            };
-            fs::write(folder.join(files[at]), bytes).unwrap();
-        }
+        let (file, text) = (files[round % 5], &texts[round % 5]);
+        fs::write(folder.join(file), spoiled(text, &mut numbers)).unwrap();
         if let Ok(sheet) = polymesh::import(&folder) {
             assert!(tried(sheet.as_bytes()), "{sheet}");
         }
+        fs::write(folder.join(file), text).unwrap();
     }
     fs::remove_dir_all(folder).unwrap();
 }

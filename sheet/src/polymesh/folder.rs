@@ -1,12 +1,8 @@
 //! The files of a folder.
 
+use crate::files::contents;
 use crate::mistake::Mistake;
-use std::fs::File;
-use std::io::Read;
 use std::path::Path;
-
-/// The most bytes of a file that are read.
-const MOST_BYTES: u64 = 1 << 26;
 
 /// A folder whose files are read.
 pub struct Folder<'a> {
@@ -44,20 +40,8 @@ impl<'a> Folder<'a> {
     }
 
     fn bytes(&self, file: &str) -> Result<Vec<u8>, String> {
-        let mut bytes = Vec::new();
-        let opened = File::open(self.path.join(file));
-        let read = opened.and_then(|file| file.take(MOST_BYTES + 1).read_to_end(&mut bytes));
-        let path = self.path(file);
-        match read {
-            Ok(_) if bytes.len() as u64 > MOST_BYTES => Err(format!(
-                "{path}: has over {MOST_BYTES} bytes, the most that are read"
-            )),
-            Ok(_) => Ok(bytes),
-            Err(error) => Err(format!(
-                "{path}: cannot be read: {error}{}",
-                self.hint(file)
-            )),
-        }
+        let bytes = contents(&self.path.join(file));
+        bytes.map_err(|reason| format!("{}: {reason}{}", self.path(file), self.hint(file)))
     }
 
     /// What may have been meant where a file is missing.

@@ -37,53 +37,64 @@ pub fn import(folder: &Path) -> Result<String, String> {
     Ok(write::sheet(&folder.name(), &mesh))
 }
 
+/// The lists of a folder, each element with its line.
+struct Lists {
+    points: List<Vec3>,
+    faces: List<Vec<usize>>,
+    owners: List<usize>,
+    neighbours: List<usize>,
+}
+
 fn read(folder: &Folder<'_>) -> Result<PolyMesh, String> {
-    let points = folder.read("points", |text| file(text, "points", point))?;
-    let faces = folder.read("faces", |text| file(text, "faces", face))?;
     let cells = |text: &str, what: &str| file(text, what, |tokens| label(tokens, "cell"));
-    let owners = folder.read("owner", |text| cells(text, "owners"))?;
-    let neighbours = folder.read("neighbour", |text| cells(text, "neighbours"))?;
+    let lists = Lists {
+        points: folder.read("points", |text| file(text, "points", point))?,
+        faces: folder.read("faces", |text| file(text, "faces", face))?,
+        owners: folder.read("owner", |text| cells(text, "owners"))?,
+        neighbours: folder.read("neighbour", |text| cells(text, "neighbours"))?,
+    };
     let patches = folder.read("boundary", patches)?;
-    check_counts(folder, &faces, &owners, &neighbours)?;
-    let cover = check_cover(&patches, neighbours.len()..faces.len());
-    cover.map_err(|mistake| folder.told("boundary", &mistake))?;
-    let points = values(points);
-    let face_points: Vec<Vec<usize>> = faces.iter().map(|(_, face)| face.clone()).collect();
-    let mesh = Mesh::from_points(
-        Dimension::Three,
-        &points,
-        &face_points,
-        &values(owners.clone()),
-        &values(neighbours.clone()),
-    );
-    let mesh = mesh.map_err(|error| unbuilt(folder, &faces, &owners, &error))?;
-    if let Some(found) = unclosed(&mesh) {
-        let line = found.turned.and_then(|face| faces.get(face));
-        let mistake = Mistake::new(line.map_or(0, |(line, _)| *line), found.to_string());
-        return Err(folder.told("faces", &mistake));
-    }
-    let links = cyclic::links(&patches, &mesh);
+    check_counts(folder, &lists)?;
+    let told = |mistake: Mistake| folder.told("boundary", &mistake);
+    check_cover(&patches, lists.neighbours.len()..lists.faces.len()).map_err(told)?;
+    let mesh = build(folder, &lists)?;
     Ok(PolyMesh {
-        points,
-        faces: face_points,
-        links: links.map_err(|mistake| folder.told("boundary", &mistake))?,
+        links: cyclic::links(&patches, &mesh).map_err(told)?,
+        points: values(&lists.points),
+        faces: values(&lists.faces),
         patches,
         mesh,
     })
 }
 
-fn values<T>(list: List<T>) -> Vec<T> {
-    list.into_iter().map(|(_, value)| value).collect()
+/// The mesh, with its geometry worked out and every cell closed.
+fn build(folder: &Folder<'_>, lists: &Lists) -> Result<Mesh, String> {
+    let mesh = Mesh::from_points(
+        Dimension::Three,
+        &values(&lists.points),
+        &values(&lists.faces),
+        &values(&lists.owners),
+        &values(&lists.neighbours),
+    );
+    let mesh = mesh.map_err(|error| unbuilt(folder, lists, &error))?;
+    match unclosed(&mesh) {
+        None => Ok(mesh),
+        Some(found) => {
+            let face = found.turned.and_then(|face| lists.faces.get(face));
+            let line = face.map_or(0, |(line, _)| *line);
+            Err(folder.told("faces", &Mistake::new(line, found.to_string())))
+        }
+    }
+}
+
+fn values<T: Clone>(list: &List<T>) -> Vec<T> {
+    list.iter().map(|(_, value)| value.clone()).collect()
 }
 
 /// Sees that every face has an owner, and that there are no more neighbours than faces.
-fn check_counts<T>(
-    folder: &Folder<'_>,
-    faces: &List<T>,
-    owners: &List<usize>,
-    neighbours: &List<usize>,
-) -> Result<(), String> {
-    let (faces, owners, neighbours) = (faces.len(), owners.len(), neighbours.len());
+fn check_counts(folder: &Folder<'_>, lists: &Lists) -> Result<(), String> {
+    let faces = lists.faces.len();
+    let (owners, neighbours) = (lists.owners.len(), lists.neighbours.len());
     if owners != faces {
         let reason = format!("{owners} owners for {faces} faces: expected one for each");
         return Err(format!("{}: {reason}", folder.path("owner")));
@@ -97,14 +108,9 @@ fn check_counts<T>(
 }
 
 /// An error of the mesh, at the line of the face that it names.
-fn unbuilt<T>(
-    folder: &Folder<'_>,
-    faces: &List<T>,
-    owners: &List<usize>,
-    error: &BuildError,
-) -> String {
-    let in_faces = |face: &usize| faces.get(*face).map(|(line, _)| ("faces", *line));
-    let in_owners = |face: &usize| owners.get(*face).map(|(line, _)| ("owner", *line));
+fn unbuilt(folder: &Folder<'_>, lists: &Lists, error: &BuildError) -> String {
+    let in_faces = |face: &usize| lists.faces.get(*face).map(|(line, _)| ("faces", *line));
+    let in_owners = |face: &usize| lists.owners.get(*face).map(|(line, _)| ("owner", *line));
     let place = match error {
         BuildError::MissingPoint { face, .. }
         | BuildError::FacePoints { face, .. }

@@ -20,8 +20,8 @@ pressure-correction uniform 0
 /// The sheet of a mesh.
 pub fn sheet(folder: &str, mesh: &PolyMesh) -> String {
     let mut text = format!(
-        "# The mesh of {}: {} points, {} faces, {} cells.\nform step\ndimension 3\n\n",
-        quoted(folder),
+        "# The mesh of {}: points {}, faces {}, cells {}.\nform step\ndimension 3\n\n",
+        folder.escape_debug(),
         mesh.points.len(),
         mesh.faces.len(),
         mesh.mesh.cell_count()

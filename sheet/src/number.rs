@@ -164,6 +164,7 @@ mod tests {
             told("3ff00000000000ab0"),
             "expected a number, found `3ff00000000000ab0`: bits are 16 hexadecimal digits and no more, these are 17 digits"
         );
+        assert!(told("03ffa000000000000").ends_with("these are 17 digits"));
         assert_eq!(
             told("0x3ff0000000000000"),
             "expected a number, found `0x3ff0000000000000`: bits are 16 hexadecimal digits and no more, these are 16 digits after `0x`"

@@ -204,6 +204,47 @@ fn a_step_in_space_by_hand() {
     assert_eq!(metrics, [0.5, 0.5].map(f64::to_bits));
 }
 
+/// Each number of a face's and a cell's line goes to its own place.
+#[test]
+fn geometry_is_taken_as_it_is_given() {
+    let text = CUBES
+        .replace(
+            "1  0 -  0 0.5 0.5   -1 0 0   -1 0 0",
+            "1  0 -  11 12 13   14 15 16   17 18 19",
+        )
+        .replace("1  1.5 0.5 0.5  1", "1  21 22 23  24");
+    let read = sheet::Sheet::read(text.as_bytes()).unwrap();
+    let face = read.mesh.face(1).unwrap();
+    assert_eq!((face.owner, face.neighbour), (0, None));
+    assert_eq!(face.center, [11.0, 12.0, 13.0]);
+    assert_eq!(face.area_vector, [14.0, 15.0, 16.0]);
+    assert_eq!(face.normal, [17.0, 18.0, 19.0]);
+    let cell = read.mesh.cell(1).unwrap();
+    assert_eq!((cell.center, cell.volume), ([21.0, 22.0, 23.0], 24.0));
+    let (text, _) = changed(
+        &step_sheet(),
+        "1 -  2 0.5    1 0    1 0",
+        "1 -  31 32  33 34  35 36",
+    );
+    let read = sheet::Sheet::read(text.as_bytes()).unwrap();
+    let face = read.mesh.face(2).unwrap();
+    assert_eq!(face.center, [31.0, 32.0, 0.0]);
+    assert_eq!(face.area_vector, [33.0, 34.0, 0.0]);
+    assert_eq!(face.normal, [35.0, 36.0, 0.0]);
+}
+
+/// A normal that is not given is the area vector over its length: 3, 4 and 5.
+#[test]
+fn a_normal_is_worked_out() {
+    let (text, _) = changed(
+        &step_sheet(),
+        "1 -  2 0.5    1 0    1 0",
+        "1 -  2 0.5    -6 8",
+    );
+    let read = sheet::Sheet::read(text.as_bytes()).unwrap();
+    assert_eq!(read.mesh.face(2).unwrap().normal, [-0.6, 0.8, 0.0]);
+}
+
 #[test]
 fn geometry_from_points_is_the_geometry_given() {
     let folder = common::own("polymesh/two-cubes");

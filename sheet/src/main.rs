@@ -55,7 +55,8 @@ fn main() -> ExitCode {
         Ok(Command::Import { folder }) => import(&folder),
         Err(reason) => Ending::failed(format!("juvandeer: {reason}\n{USAGE}"), WRONG_USE),
     };
-    eprint!("{}", ending.error);
+    // where standard error is closed, the status tells
+    let _ = io::stderr().write_all(ending.error.as_bytes());
     match io::stdout().write_all(ending.output.as_bytes()) {
         Ok(()) => ExitCode::from(ending.status),
         Err(_) => ExitCode::from(NOT_WRITTEN),

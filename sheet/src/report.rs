@@ -146,5 +146,8 @@ fn share(balance: &CellBalance) -> u64 {
 }
 
 fn percent(share: u64) -> String {
+    if share > 1 << 32 {
+        return "beyond it".to_string();
+    }
     format!("{:.1}%", share as f64 / 2f64.powi(32) * 100.0)
 }

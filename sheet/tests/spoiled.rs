@@ -63,15 +63,10 @@ fn spoiled(text: &[u8], numbers: &mut Numbers) -> Vec<u8> {
             2 if !bytes.is_empty() => {
                 bytes[at] = b"0123456789-,.\n #abcdefghx(){};/*\""[numbers.below(33)]
             }
-            3 => drop(
-                bytes.drain(
-                    at..(at + numbers.below(20))
-                        .min(text.len())
-                        .max(at)
-                        .min(bytes.len())
-                        .max(at),
-                ),
-            ),
+            3 => {
+                let end = (at + numbers.below(20)).min(bytes.len());
+                bytes.drain(at..end);
+            }
             4 => swap_lines(&mut bytes, numbers),
             _ => {
                 let word = format!(" {} ", WORDS[numbers.below(WORDS.len())]);

@@ -74,6 +74,14 @@ pub fn all<'a>(entry: &'a Entry<'a>, what: &str) -> Result<Vec<Item<'a>>, Mistak
     }
 }
 
+/// The items as a list without a gap, each on a line of its own: what can be long is not repeated.
+pub fn each<'a>(entry: &'a Entry<'a>, what: &str) -> Result<Vec<Item<'a>>, Mistake> {
+    for line in &entry.items {
+        index(line.words[0], what).at(line.number)?;
+    }
+    all(entry, what)
+}
+
 /// Sees that an item's number is one of the mesh.
 pub fn within(at: usize, count: usize, what: &str) -> Result<(), String> {
     if at < count {

@@ -421,6 +421,23 @@ fn a_mesh_from_points_that_cannot_be_built() {
 }
 
 #[test]
+fn points_and_their_faces_given_together() {
+    let block = shipped("block");
+    told_there(
+        &block,
+        FACE,
+        "0-9  0 1  1 6 26 21",
+        "expected the number of a face, found `0-9`",
+    );
+    told_there(
+        &block,
+        "59  2 1.2 1",
+        "59,60  2 1.2 1",
+        "expected the number of a point, found `59,60`",
+    );
+}
+
+#[test]
 fn a_face_with_two_cells_after_one_with_one() {
     let block = shipped("block");
     let second = block

@@ -346,6 +346,34 @@ fn a_bad_line_of_faces_is_named() {
 }
 
 #[test]
+fn only_numbers_are_repeated() {
+    wrong(
+        "repeated",
+        "faces",
+        "\n11\n(\n",
+        "\n65535{4(0 1 2 3)}\n(\n",
+        "faces:9",
+        "expected a list of faces, as `N ( ... )`, found `{`",
+    );
+    wrong(
+        "without",
+        "owner",
+        "11(0 0 1 0 1 0 1 0 1 0 1)",
+        "{0}",
+        "owner:2",
+        "expected a list of owners, as `N ( ... )`, found `{`",
+    );
+    wrong(
+        "both",
+        "owner",
+        "11(0 0 1 0 1 0 1 0 1 0 1)",
+        "11{0 1}",
+        "owner:2",
+        "expected `}` after the one number of a list `N{x}`, found `1`",
+    );
+}
+
+#[test]
 fn bad_owners_and_neighbours_are_named() {
     wrong(
         "short",

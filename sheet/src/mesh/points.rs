@@ -5,7 +5,7 @@ use super::sides;
 use crate::closed::unclosed;
 use crate::entries::{Entries, Entry};
 use crate::fields::vector;
-use crate::items::{all, Item};
+use crate::items::{each, Item};
 use crate::mistake::{AtLine, Mistake};
 use crate::number::index;
 use engine::{Dimension, Mesh, Vec3};
@@ -16,13 +16,13 @@ pub fn from_points(
     dimension: Dimension,
     points: &Entry<'_>,
 ) -> Result<Mesh, Mistake> {
-    let point_items = all(points, "point")?;
+    let point_items = each(points, "point")?;
     let positions: Vec<Vec3> = point_items
         .iter()
         .map(|item| vector(dimension, item.words).at(item.line))
         .collect::<Result<_, _>>()?;
     let entry = entries.need("faces", "every sheet needs")?;
-    let face_items = all(entry, "face")?;
+    let face_items = each(entry, "face")?;
     let (faces, owners, neighbours) = faces(&face_items)?;
     let places = Places {
         points: &point_items,

@@ -1,7 +1,7 @@
 //! The patches of a mesh.
 
-use super::header::{header, Dictionary};
-use super::lists::list;
+use super::header::Dictionary;
+use super::lists::{file, list};
 use super::tokens::{Token, Tokens};
 use crate::mistake::{quoted, AtLine, Mistake};
 use crate::number::index;
@@ -21,13 +21,8 @@ pub struct Patch {
 
 /// Reads the file `boundary`.
 pub fn patches(text: &str) -> Result<Vec<Patch>, Mistake> {
-    let mut tokens = Tokens::of(text);
-    header(&mut tokens)?;
-    let list = list(&mut tokens, "patches", patch)?;
-    match tokens.next()? {
-        None => Ok(list.into_iter().map(|(_, patch)| patch).collect()),
-        Some(spot) => Err(spot.unlike("nothing after the list of patches")),
-    }
+    let list = file(text, "patches", |tokens| list(tokens, "patches", patch))?;
+    Ok(list.into_iter().map(|(_, patch)| patch).collect())
 }
 
 /// A patch, `name { type ...; nFaces ...; startFace ...; }`.

@@ -1,4 +1,4 @@
-//! Lists: `N ( ... )`, with or without the number before it, and `N{x}` for N times x.
+//! Lists: `N ( ... )`, with or without the number before it; of numbers also `N{x}`, for N times x.
 
 use super::header::header;
 use super::tokens::{Token, Tokens};
@@ -10,15 +10,15 @@ use engine::Vec3;
 /// The elements of a list, each with its line.
 pub type List<T> = Vec<(usize, T)>;
 
-/// Reads a file that has a header and one list. `what` says what is listed.
-pub fn file<'a, T: Clone>(
+/// Reads a file that has a header and one list, by `read`. `what` says what is listed.
+pub fn file<'a, T>(
     text: &'a str,
     what: &str,
-    element: impl Fn(&mut Tokens<'a>) -> Result<T, Mistake>,
+    read: impl FnOnce(&mut Tokens<'a>) -> Result<List<T>, Mistake>,
 ) -> Result<List<T>, Mistake> {
     let mut tokens = Tokens::of(text);
     header(&mut tokens)?;
-    let list = list(&mut tokens, what, element)?;
+    let list = read(&mut tokens)?;
     match tokens.next()? {
         None => Ok(list),
         Some(spot) => Err(spot.unlike(&format!("nothing after the list of {what}"))),
@@ -26,29 +26,44 @@ pub fn file<'a, T: Clone>(
 }
 
 /// Reads a list.
-pub fn list<'a, T: Clone>(
+pub fn list<'a, T>(
     tokens: &mut Tokens<'a>,
     what: &str,
     element: impl Fn(&mut Tokens<'a>) -> Result<T, Mistake>,
 ) -> Result<List<T>, Mistake> {
-    let expected = format!("a list of {what}, as `N ( ... )`");
     let count = count(tokens, what)?;
-    let begin = tokens.need(&expected)?;
-    match (begin.token, count) {
-        (Token::Mark('('), _) => {}
-        (Token::Mark('{'), Some(count)) => {
-            let one = element(tokens)?;
-            tokens.mark('}', "`}` after the one element of a list `N{x}`")?;
-            return Ok(vec![(begin.line, one); count]);
+    listed(tokens, what, count, element)
+}
+
+/// Reads a list of cells, or one cell and how often it stands there.
+pub fn cells(tokens: &mut Tokens<'_>, what: &str) -> Result<List<usize>, Mistake> {
+    let count = count(tokens, what)?;
+    let cell = |tokens: &mut Tokens<'_>| label(tokens, "cell");
+    match (tokens.peek()?, count) {
+        (Some(spot), Some(count)) if spot.token == Token::Mark('{') => {
+            tokens.next()?;
+            let one = cell(tokens)?;
+            tokens.mark('}', "`}` after the one number of a list `N{x}`")?;
+            Ok(vec![(spot.line, one); count])
         }
-        _ => return Err(begin.unlike(&expected)),
+        _ => listed(tokens, what, count, cell),
     }
+}
+
+/// The list after its number, which has to be right.
+fn listed<'a, T>(
+    tokens: &mut Tokens<'a>,
+    what: &str,
+    count: Option<usize>,
+    element: impl Fn(&mut Tokens<'a>) -> Result<T, Mistake>,
+) -> Result<List<T>, Mistake> {
+    let line = tokens.mark('(', &format!("a list of {what}, as `N ( ... )`"))?;
     let list = elements(tokens, what, element)?;
     match count {
         Some(count) if count != list.len() => {
             let found = list.len();
             let reason = format!("the list is said to have {count} {what} and has {found}");
-            Err(Mistake::new(begin.line, reason))
+            Err(Mistake::new(line, reason))
         }
         _ => Ok(list),
     }

@@ -13,7 +13,7 @@ use crate::mistake::Mistake;
 use boundary::{check_cover, patches, Patch};
 use engine::{BuildError, Dimension, Mesh, Vec3};
 use folder::Folder;
-use lists::{face, file, label, point, List};
+use lists::{cells, face, file, list, point, List};
 use std::path::Path;
 
 /// The mesh of a folder.
@@ -46,12 +46,19 @@ struct Lists {
 }
 
 fn read(folder: &Folder<'_>) -> Result<PolyMesh, String> {
-    let cells = |text: &str, what: &str| file(text, what, |tokens| label(tokens, "cell"));
     let lists = Lists {
-        points: folder.read("points", |text| file(text, "points", point))?,
-        faces: folder.read("faces", |text| file(text, "faces", face))?,
-        owners: folder.read("owner", |text| cells(text, "owners"))?,
-        neighbours: folder.read("neighbour", |text| cells(text, "neighbours"))?,
+        points: folder.read("points", |text| {
+            file(text, "points", |tokens| list(tokens, "points", point))
+        })?,
+        faces: folder.read("faces", |text| {
+            file(text, "faces", |tokens| list(tokens, "faces", face))
+        })?,
+        owners: folder.read("owner", |text| {
+            file(text, "owners", |tokens| cells(tokens, "owners"))
+        })?,
+        neighbours: folder.read("neighbour", |text| {
+            file(text, "neighbours", |tokens| cells(tokens, "neighbours"))
+        })?,
     };
     let patches = folder.read("boundary", patches)?;
     check_counts(folder, &lists)?;

@@ -453,6 +453,14 @@ fn bad_patches_are_named() {
         "the patch `walls` has faces 4 to 11: expected it to begin at face 3, and faces end at 10",
     );
     wrong(
+        "overlap",
+        "boundary",
+        wall,
+        "nFaces 9;\nstartFace 2;",
+        "boundary:30",
+        "the patch `walls` has faces 2 to 10: expected it to begin at face 3, and faces end at 10",
+    );
+    wrong(
         "end",
         "boundary",
         wall,
@@ -519,6 +527,14 @@ fn bad_cyclic_patches_are_named() {
         "neighbourPatch  walls",
         "boundary:11",
         "the cyclic patch `left` names `walls`, which is no cyclic patch that names it back",
+    );
+    wrong(
+        "back",
+        "boundary",
+        "neighbourPatch  left",
+        "neighbourPatch  walls",
+        "boundary:11",
+        "the cyclic patch `left` names `right`, which is no cyclic patch that names it back",
     );
     wrong(
         "rotational",

@@ -16,7 +16,7 @@ use Rattle.mesh.specs.declared.Answer.the-variants.{Accepted, Refused}
 use Rattle.mesh.specs.declared.Outcome.{Outcome}
 use Rattle.mesh.specs.declared.Outcome.the-variants.{Value, Bad}
 use Rattle.mesh.proofs.Pass.{refused-at}
-use Rattle.passes.specs.Staged.{Passes, twoRefusals, lateOf, staged, isEarly, earlyNumber, keptAt, lateAfter, storedAt}
+use Rattle.passes.specs.Staged.{Passes, twoRefusals, lateOf, staged, isEarly, isLate, earlyNumber, keptAt, lateAfter, storedAt}
 use Rattle.passes.specs.declared.Stage.{Stage}
 use Rattle.passes.specs.declared.Stage.the-variants.{Kept, Early, Late}
 
@@ -37,6 +37,13 @@ handed-out a n l e = rw e
 -- what a pass that answers a, and leaves `new`, hands out once it is settled
 pub settled : (a : Answer) (l : List Float) (n : ℕ) (b r : Answer) (new out : List Float) → Passes a l b new → length new ≡ n → r ≡ b → out ≡ handedOut b (length new) new → (r ≡ a) × (out ≡ handedOut r n l)
 settled a l n b r new out p e s o = (s ∙ p .0, rw s (o ∙ ap (λ (k : ℕ). handedOut b k new) e ∙ handed b n l new (p .1)))
+
+-- an item that is not late leaves the refusal of the second sequence
+pub not-late : (a : Answer) (s : Stage) (i : ℕ) → isLate s ≡ false → a ≡ lateAfter a s i
+unfolding isLate lateAfter
+not-late a (Kept v) i h = refl
+not-late a (Early k) i h = refl
+not-late a (Late k) i h = let z : _≡_ {A = ℕ} 0 1 = cc in absurd (omega arith)
 
 -- one item, which refuses in the first sequence
 first-stage : (a b : Outcome) → isEarly (staged a b) ≡ true → a ≡ Bad (earlyNumber (staged a b))

@@ -27,11 +27,16 @@ unfoldable pub staged : Outcome → Outcome → Stage
 staged (Bad k) b = Early k
 staged (Value v) b = lateOf b
 
--- whether the first sequence is refused, and with which number
+-- whether the first sequence is refused, whether the second is, and with which number the first
 unfoldable pub isEarly : Stage → Bool
 isEarly (Kept v) = false
 isEarly (Early k) = true
 isEarly (Late k) = false
+
+unfoldable pub isLate : Stage → Bool
+isLate (Kept v) = false
+isLate (Early k) = false
+isLate (Late k) = true
 
 unfoldable pub earlyNumber : Stage → ℕ
 earlyNumber (Kept v) = 0

@@ -3,7 +3,8 @@
 ghost use mathlib.Core.Path.{_≡_};
 ghost use lib.ListN.{length, set};
 ghost use Rattle.mesh.specs.Pass.{handedOut};
-ghost use Rattle.passes.specs.Staged.{lateOf, staged, isEarly, earlyNumber};
+ghost use Rattle.passes.specs.Staged.{lateOf, staged, isEarly, isLate, earlyNumber, lateAfter};
+ghost use Rattle.passes.specs.declared.Stage.the-variants.{Late};
 use mesh::Answer;
 use mesh::Outcome;
 
@@ -44,6 +45,16 @@ pub fn is_early(s: Stage) -> bool
     }
 }
 
+pub fn is_late(s: Stage) -> bool
+    ensures { λ r. ⌜ r ≡ isLate s ⌝ }
+{
+    match s {
+        Stage::Kept(_) => false,
+        Stage::Early(_) => false,
+        Stage::Late(_) => true,
+    }
+}
+
 // The number of a refusal of the first sequence, else 0.
 pub fn early_number(s: Stage) -> u64
     ensures { λ r. ⌜ r ≡ earlyNumber s ⌝ }
@@ -52,6 +63,28 @@ pub fn early_number(s: Stage) -> u64
         Stage::Kept(_) => 0,
         Stage::Early(k) => k,
         Stage::Late(_) => 0,
+    }
+}
+
+fn first_late(a: Answer, k: u64, i: usize) -> Answer
+    ensures { λ r. ⌜ r ≡ lateAfter a (Late k) i ⌝ }
+{
+    match a {
+        Answer::Accepted => Answer::Refused(k, i),
+        Answer::Refused(j, h) => Answer::Refused(j, h),
+    }
+}
+
+// The first refusal of the second sequence, with what item i comes to. A loop asks for it only where the
+// item is late: an answer that is handed over at every turn is copied in pieces, which costs more than
+// the arithmetic of a face.
+pub fn with_late(a: Answer, s: Stage, i: usize) -> Answer
+    ensures { λ r. ⌜ r ≡ lateAfter a s i ⌝ }
+{
+    match s {
+        Stage::Kept(_) => a,
+        Stage::Early(_) => a,
+        Stage::Late(k) => first_late(a, k, i),
     }
 }
 

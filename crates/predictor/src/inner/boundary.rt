@@ -19,10 +19,12 @@ use mesh::Outcome;
 use passes::Stage;
 use passes::early;
 use passes::early_number;
-use passes::inner::keep;
+use passes::inner::put;
 use passes::is_early;
+use passes::is_late;
 use passes::late;
 use passes::settle;
+use passes::with_late;
 
 // The coefficient of the face f, which has one cell and no link.
 fn by_condition(
@@ -170,7 +172,10 @@ fn fill(
         if is_early(s) {
             return Answer::Refused(early_number(s), f);
         }
-        a = keep(out, f, s, a);
+        put(out, f, s);
+        if is_late(s) {
+            a = with_late(a, s, f);
+        }
         f += 1;
     }
     a

@@ -19,11 +19,13 @@ use mesh::Face;
 use mesh::Outcome;
 use passes::Stage;
 use passes::early_number;
-use passes::inner::keep;
+use passes::inner::put;
 use passes::is_early;
+use passes::is_late;
 use passes::late;
 use passes::settle;
 use passes::store;
+use passes::with_late;
 
 // What the cell c brings to a flux.
 fn side_at(
@@ -155,7 +157,10 @@ fn predict(
         if is_early(s) {
             return Answer::Refused(early_number(s), f);
         }
-        a = keep(out, f, s, a);
+        put(out, f, s);
+        if is_late(s) {
+            a = with_late(a, s, f);
+        }
         f += 1;
     }
     a

@@ -1,5 +1,6 @@
 -- `predictor::inner::boundary::fill` meets its contract: below f no face with two cells refuses, and a is the first refusal of the others.
-use Rattle.passes.proofs.Stages.{Both, start, more, stop, finish}
+use Rattle.passes.specs.Staged.{lateAfter}
+use Rattle.passes.proofs.Stages.{not-late, Both, start, more, stop, finish}
 use Rattle.coupling.specs.Grid.{grid, Coupled}
 use Rattle.predictor.specs.Coefficients.{internalAt}
 use Rattle.predictor.specs.Boundary.{bounds, Bounded, coefficientAt}
@@ -9,6 +10,7 @@ use lib.ListN.{length}
 use native.Mathlib.Omega.{arith}
 use Prim.Native.Nat.{ℕ, _-_}
 use mathlib.Core.Path.{_≡_, refl, sym, _∙_, subst}
+use mathlib.Core.Logic.{⊎-elim}
 use Rattle.predictor.proofs.inner.boundary.fill.Statement.{statement}
 use Rattle.predictor.proofs.inner.boundary.fill.Tie as tie
 
@@ -59,10 +61,16 @@ returns c =
     let no = stop (firstAt s) (secondAt s) (length (now (s .args .out))) (l .before .loop .out) (l .before .loop .a) (l .before .loop .f) (v .stage-at .result) (v .stage-at .ensures) (sym (y .is-early .ensures) ∙ t .if1 .taken) (l .before .loop .inv) (omega (arith, l .loop-test .taken, l .before .loop .inv .size)) in
     (rw (k .early-number .ensures) (sym no), λ e. cc)
 
-keep-requires : tie.Need-keep-requires Inv-loop μ-loop
-keep-requires c κs =
+put-requires : tie.Need-put-requires Inv-loop μ-loop
+put-requires c κs =
     let l : tie.In-loop Inv-loop μ-loop = search in
     l .loop-test .taken
+
+is-late-requires : tie.Need-is-late-requires Inv-loop μ-loop
+is-late-requires c κs = tt
+
+with-late-requires : tie.Need-with-late-requires Inv-loop μ-loop
+with-late-requires c κs = tt
 
 add-f : tie.Need-add-f Inv-loop μ-loop
 add-f c =
@@ -81,9 +89,14 @@ loop-again c =
     let v : tie.After-stage-at Inv-loop μ-loop = search in
     let d : tie.Else1 Inv-loop μ-loop = search in
     let y : tie.After-is-early Inv-loop μ-loop = search in
-    let k : tie.After-keep Inv-loop μ-loop = search in
-    rw (k .keep .ensures .0, k .keep .ensures .1)
-    (more (firstAt s) (secondAt s) (length (now (s .args .out))) (l .before .loop .out) (l .before .loop .a) (l .before .loop .f) (v .stage-at .result) (v .stage-at .ensures) (sym (y .is-early .ensures) ∙ d .if1 .left) (l .before .loop .inv) (omega (arith, l .loop-test .taken, l .before .loop .inv .size)))
+    let k : tie.After-put Inv-loop μ-loop = search in
+    let z : tie.After-is-late Inv-loop μ-loop = search in
+    let a = l .before .loop .a in
+    let f = l .before .loop .f in
+    let late : c .if2 .a ≡ lateAfter a (v .stage-at .result) f =
+    ⊎-elim (λ w. w .2 ∙ w .1 .ensures) (λ w. w .1 ∙ not-late a (v .stage-at .result) f (sym (z .is-late .ensures) ∙ w .0 .left)) (c .if2 .came) in
+    rw (late, k .put .ensures)
+    (more (firstAt s) (secondAt s) (length (now (s .args .out))) (l .before .loop .out) a f (v .stage-at .result) (v .stage-at .ensures) (sym (y .is-early .ensures) ∙ d .if1 .left) (l .before .loop .inv) (omega (arith, l .loop-test .taken, l .before .loop .inv .size)))
 
 same-length-2 : tie.Need-same-length-2 Inv-loop μ-loop
 same-length-2 c = c .before .loop .inv .size
@@ -106,7 +119,9 @@ fill-spec =
     early-number-requires
     same-length
     returns
-    keep-requires
+    put-requires
+    is-late-requires
+    with-late-requires
     add-f
     loop-less
     loop-again

@@ -1,5 +1,6 @@
 -- `predictor::inner::prediction::predict` meets its contract: below f no coefficient refuses, and a is the first refusal of a flux.
-use Rattle.passes.proofs.Stages.{never-accepted, Both, start, more, stop, finish, Stores, empty, stored, filled}
+use Rattle.passes.specs.Staged.{lateAfter}
+use Rattle.passes.proofs.Stages.{never-accepted, not-late, Both, start, more, stop, finish, Stores, empty, stored, filled}
 use Rattle.predictor.specs.Prediction.{flow, predictedAt}
 use Rattle.coupling.specs.Grid.{grid}
 use Rattle.predictor.specs.Coefficients.{internalAt}
@@ -10,6 +11,7 @@ use native.Mathlib.Nat.{le-antisymm}
 use native.Mathlib.Omega.{arith}
 use Prim.Native.Nat.{ℕ, _-_}
 use mathlib.Core.Path.{_≡_, refl, sym, _∙_}
+use mathlib.Core.Logic.{⊎-elim}
 use Rattle.predictor.proofs.inner.prediction.predict.Statement.{statement}
 use Rattle.predictor.proofs.inner.prediction.predict.Tie as tie
 
@@ -76,10 +78,16 @@ returns c =
     let no = stop (firstAt s) (secondAt s) (length (now (s .args .walls))) (l .before .loop .out) (l .before .loop .a) (l .before .loop .f) (v .stage-at .result) (v .stage-at .ensures .0) (sym (y .is-early .ensures) ∙ t .if1 .taken) (l .before .loop .inv .0) (l .loop-test .taken) in
     ((rw (k .early-number .ensures) (sym no), λ e. cc), λ _ ok. absurd (never-accepted _ _ ok))
 
-keep-requires : tie.Need-keep-requires Inv-loop μ-loop
-keep-requires c κs =
+put-requires : tie.Need-put-requires Inv-loop μ-loop
+put-requires c κs =
     let l : tie.In-loop Inv-loop μ-loop = search in
     omega (arith, l .loop-test .taken, l .before .loop .inv .0 .size)
+
+is-late-requires : tie.Need-is-late-requires Inv-loop μ-loop
+is-late-requires c κs = tt
+
+with-late-requires : tie.Need-with-late-requires Inv-loop μ-loop
+with-late-requires c κs = tt
 
 add-f : tie.Need-add-f Inv-loop μ-loop
 add-f c =
@@ -95,14 +103,19 @@ loop-again : tie.Need-loop-again Inv-loop μ-loop
 loop-again c =
     let d : tie.Else1 Inv-loop μ-loop = search in
     let y : tie.After-is-early Inv-loop μ-loop = search in
-    let k : tie.After-keep Inv-loop μ-loop = search in
+    let k : tie.After-put Inv-loop μ-loop = search in
+    let z : tie.After-is-late Inv-loop μ-loop = search in
     let s = startAt y in
     let l = turnAt y in
     let v = stageAt y in
+    let a = l .before .loop .a in
+    let f = l .before .loop .f in
+    let late : c .if2 .a ≡ lateAfter a (v .stage-at .result) f =
+    ⊎-elim (λ w. w .2 ∙ w .1 .ensures) (λ w. w .1 ∙ not-late a (v .stage-at .result) f (sym (z .is-late .ensures) ∙ w .0 .left)) (c .if2 .came) in
     let nay = sym (y .is-early .ensures) ∙ d .if1 .left in (
-      rw (k .keep .ensures .0, k .keep .ensures .1)
-          (more (firstAt s) (secondAt s) (length (now (s .args .walls))) (l .before .loop .out) (l .before .loop .a) (l .before .loop .f) (v .stage-at .result) (v .stage-at .ensures .0) nay (l .before .loop .inv .0) (l .loop-test .taken)),
-      stored (firstAt s) (length (now (s .args .walls))) (length (now (s .args .internal))) (secondAt s) (l .before .loop .internal) _ (l .before .loop .f) (v .stage-at .result) (v .stage-at .ensures .0) nay (v .stage-at .ensures .1) (l .before .loop .inv .1) (l .loop-test .taken),
+      rw (late, k .put .ensures)
+          (more (firstAt s) (secondAt s) (length (now (s .args .walls))) (l .before .loop .out) a f (v .stage-at .result) (v .stage-at .ensures .0) nay (l .before .loop .inv .0) (l .loop-test .taken)),
+      stored (firstAt s) (length (now (s .args .walls))) (length (now (s .args .internal))) (secondAt s) (l .before .loop .internal) _ f (v .stage-at .result) (v .stage-at .ensures .0) nay (v .stage-at .ensures .1) (l .before .loop .inv .1) (l .loop-test .taken),
     )
 
 same-length-3 : tie.Need-same-length-3 Inv-loop μ-loop
@@ -133,7 +146,9 @@ predict-spec =
     same-length
     same-length-2
     returns
-    keep-requires
+    put-requires
+    is-late-requires
+    with-late-requires
     add-f
     loop-less
     loop-again

@@ -1,9 +1,9 @@
--- `passes::inner::first_late` meets its contract.
+-- `passes::first_late` meets its contract.
 use Rattle.passes.specs.Staged.{lateAfter}
 use Rattle.mesh.specs.Pass.{after}
 use borrow.Author.Needs.{needs}
-use Rattle.passes.proofs.inner.first_late.Statement.{statement}
-use Rattle.passes.proofs.inner.first_late.Tie as tie
+use Rattle.passes.proofs.first_late.Statement.{statement}
+use Rattle.passes.proofs.first_late.Tie as tie
 
 enum-told : tie.Need-enum-told
 enum-told c = search needs

@@ -6,7 +6,7 @@ use native.Mathlib.Omega.{arith}
 use lib.ListN.{length, take, set, length-set}
 use lib.Seq.{take-suc-set, take-all}
 use lib.Ieee.{Float}
-use Rattle.mesh.specs.Pass.{unless, vectorsOf}
+use Rattle.mesh.specs.Pass.{unless}
 use Rattle.mesh.specs.declared.Answer.{Answer}
 use Rattle.mesh.specs.declared.Answer.the-variants.{Accepted, Refused}
 use Rattle.mesh.specs.declared.Counts.{Counts}

@@ -1,14 +1,11 @@
 -- Numbers three at a time: the laws `Numbered` and `Regrouped`. Assumes nothing.
 use mathlib.Core.Path.{_≡_, refl, sym, _∙_, ap}
 use mathlib.Core.List.{List, [], _∷_, _++_, append-assoc, append-nil}
-use Prim.Native.Nat.{ℕ, zero, suc, _+_, _*_, _<_}
+use Prim.Native.Nat.{ℕ, zero, suc, _+_, _*_}
 use native.Mathlib.Omega.{arith}
-use native.Mathlib.Numerals.{add-one, add-two, add-three}
-use lib.ListN.{length, getD}
-use lib.Ieee.{Float, nan}
+use lib.Ieee.{Float}
 use Rattle.mesh.specs.Pass.{vectorsOf}
 use Rattle.mesh.specs.Records.{vectorAt}
-use Rattle.mesh.specs.Vector.{vec, zero3}
 use Rattle.mesh.specs.declared.Vec3.{Vec3}
 use Rattle.records.specs.Records.{vectors, recordsOf, Numbered, Regrouped}
 

@@ -64,7 +64,7 @@ use Rattle.mesh.proofs.Counts.Laws as N′
 use Rattle.mesh.proofs.Vec3 as T
 use Rattle.mesh.proofs.Vec3.Laws as T′
 use Rattle.numerics.specs.Checks.{Slices, slices}
-use Rattle.numerics.specs.Gradient.{gradientAt, gradients, gradientChecks, Sloped}
+use Rattle.numerics.specs.Gradient.{gradientAt, gradients, Sloped}
 use Rattle.numerics.proofs.inner.gradient.gradient_at as gradient
 use Rattle.numerics.proofs.inner.gradient.gradient_at.Symbol as gradient-def
 use Rattle.numerics.proofs.inner.gradient.gradient_at.Symbol.{name as #gradient-at}

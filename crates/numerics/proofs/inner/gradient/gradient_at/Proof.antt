@@ -1,5 +1,5 @@
 -- `numerics::inner::gradient::gradient_at` meets its contract: the rows of the inverse times the right side.
-use mathlib.Core.Path.{_≡_, _∙_, ap}
+use mathlib.Core.Path.{_∙_, ap}
 use native.Mathlib.Omega.{arith}
 use denote.Ref.{now}
 use Rattle.mesh.specs.declared.Vec3.{Vec3}

@@ -1,15 +1,14 @@
 -- `numerics::inner::gradient::least_squares_gradient` meets its contract: the gradients of the cells below c are written.
-use mathlib.Core.Path.{_≡_, sym, _∙_, ap, subst}
+use mathlib.Core.Path.{sym, _∙_, subst}
 use mathlib.Core.List.{List}
-use Prim.Native.Nat.{ℕ, _+_, _-_}
+use Prim.Native.Nat.{_+_, _-_}
 use native.Mathlib.Omega.{arith}
 use lib.ListN.{length}
 use lib.Ieee.{Float}
 use denote.Ref.{now}
-use Rattle.mesh.specs.declared.Vec3.{Vec3}
 use Rattle.mesh.proofs.Vectors.{Written, start, more, finish}
 use Rattle.numerics.specs.Checks.{slices}
-use Rattle.numerics.specs.Gradient.{product, gradientAt, gradients}
+use Rattle.numerics.specs.Gradient.{gradientAt, gradients}
 use Rattle.numerics.proofs.inner.gradient.least_squares_gradient.Statement.{statement}
 use Rattle.numerics.proofs.inner.gradient.least_squares_gradient.Tie as tie
 

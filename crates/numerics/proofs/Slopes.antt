@@ -1,7 +1,7 @@
 -- What the checks of a lent stencil and a cell field establish. Assumes nothing.
 use mathlib.Core.Path.{_≡_, sym, _∙_, subst}
 use mathlib.Core.List.{List}
-use mathlib.Core.Bool.{true, _&&_}
+use mathlib.Core.Bool.{Bool, true, _&&_}
 use Prim.Native.Nat.{ℕ, _+_, _*_, _/_, _<_}
 use native.Mathlib.Omega.{arith}
 use lib.Dec.{eqb, leb}
@@ -18,7 +18,7 @@ use Rattle.mesh.specs.declared.chain.Form.the-variants.{Single}
 use Rattle.mesh.proofs.Truth.{and-true, every-at}
 use Rattle.mesh.proofs.Facts.{both-accepted, passed, nothing-at, chains-in}
 use Rattle.numerics.specs.Checks.{Slices, lengthsOf, stencilSizes, stencilSized}
-use Rattle.numerics.specs.Gradient.{gradientChecks, Sloped}
+use Rattle.numerics.specs.Gradient.{lentChecks, gradientChecks, Sloped}
 
 -- by the sizes of a stencil of so many cells and records
 pub slopes-by : (cells records : ℕ) (s : Slices) (field : List Float) → stencilSized cells records (lengthsOf s) ≡ true → length field ≡ cells → lowestBroken (cells + 2) (s .equations) Single (s .starts) ≡ Nothing → Sloped s records field
@@ -36,15 +36,20 @@ slopes-by cells records s field sized v none =
       chains = λ c l. subst (λ (k : ℕ). Chain (s .equations) records (k + 2) (getD (s .starts) c 0)) (sym v) (subst (λ (k : ℕ). Chain (s .equations) k (cells + 2) (getD (s .starts) c 0)) half (chains-in (cells + 2) (s .equations) Single (s .starts) none c (omega arith)));
     }
 
-pub slopes : (n : Counts) (stencil records : ℕ) (s : Slices) (number : ℕ) (field : List Float) (outs : ℕ) → gradientChecks n stencil records s number field outs ≡ Accepted → Sloped s records field × (length field ≡ n .cells) × (outs ≡ 3 * (n .cells))
-unfolding gradientChecks firstOf
-slopes n stencil records s number field outs h =
+pub slopes-sized : (n : Counts) (stencil records : ℕ) (s : Slices) (number : ℕ) (field : List Float) (fits : Bool) → lentChecks n stencil records s number field fits ≡ Accepted → Sloped s records field × (length field ≡ n .cells) × (fits ≡ true)
+unfolding lentChecks firstOf
+slopes-sized n stencil records s number field fits h =
     let sized = stencilSized (n .cells) records (lengthsOf s) in
     let one = both-accepted (pass 1 (sizesOk n && leb records 65535)) _ h in
-    let two = both-accepted (pass 2 (sized && eqb (length field) (n .cells) && eqb outs (3 * (n .cells)))) _ (one .1) in
+    let two = both-accepted (pass 2 (sized && eqb (length field) (n .cells) && fits)) _ (one .1) in
     let three = both-accepted (pass 3 (eqb stencil (n .mesh) && eqb number (n .mesh))) _ (two .1) in
     let five = both-accepted (at 5 (lowestBroken (n .cells + 2) (s .equations) Single (s .starts))) Accepted (three .1) in
-    let all = and-true (sized && eqb (length field) (n .cells)) (eqb outs (3 * (n .cells))) (passed 2 _ (two .0)) in
+    let all = and-true (sized && eqb (length field) (n .cells)) fits (passed 2 _ (two .0)) in
     let own = and-true sized (eqb (length field) (n .cells)) (all .0) in
     let v : length field ≡ n .cells = eqb-true _ _ (own .1) in
-    (slopes-by (n .cells) records s field (own .0) v (nothing-at 5 _ (five .0)), v, eqb-true _ _ (all .1))
+    (slopes-by (n .cells) records s field (own .0) v (nothing-at 5 _ (five .0)), v, all .1)
+
+pub slopes : (n : Counts) (stencil records : ℕ) (s : Slices) (number : ℕ) (field : List Float) (outs : ℕ) → gradientChecks n stencil records s number field outs ≡ Accepted → Sloped s records field × (length field ≡ n .cells) × (outs ≡ 3 * (n .cells))
+slopes n stencil records s number field outs h =
+    let w = slopes-sized n stencil records s number field (eqb outs (3 * (n .cells))) h in
+    (w .0, w .1, eqb-true _ _ (w .2))

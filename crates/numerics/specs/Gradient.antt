@@ -50,15 +50,19 @@ gradients s records field cells = vectorsOf (gradientAt s records field) cells
 
 -- ---- the entry
 
--- 1, 2, 3 and 5 of what it is lent; `stencil` and `number` are the mesh numbers of the stencil and of the field
-unfoldable pub gradientChecks : Counts → ℕ → ℕ → Slices → ℕ → List Float → ℕ → Answer
-gradientChecks n stencil records s number field outs =
+-- 1, 2, 3 and 5 of what it is lent; `stencil` and `number` are the mesh numbers of the stencil and of the field, and `sized` says whether the output has its length
+unfoldable pub lentChecks : Counts → ℕ → ℕ → Slices → ℕ → List Float → Bool → Answer
+lentChecks n stencil records s number field sized =
     firstOf
     (pass 1 (sizesOk n && leb records 65535)
-    ∷ pass 2 (stencilSized (n .cells) records (lengthsOf s) && eqb (length field) (n .cells) && eqb outs (3 * (n .cells)))
+    ∷ pass 2 (stencilSized (n .cells) records (lengthsOf s) && eqb (length field) (n .cells) && sized)
     ∷ pass 3 (eqb stencil (n .mesh) && eqb number (n .mesh))
     ∷ at 5 (lowestBroken (n .cells + 2) (s .equations) Single (s .starts))
     ∷ [])
+
+-- for an output of so many numbers
+abbrev pub gradientChecks : Counts → ℕ → ℕ → Slices → ℕ → List Float → ℕ → Answer
+gradientChecks n stencil records s number field outs = lentChecks n stencil records s number field (eqb outs (3 * (n .cells)))
 
 -- what the checks establish
 pub record Sloped (s : Slices) (records : ℕ) (field : List Float) : Type 0 where

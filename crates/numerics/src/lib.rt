@@ -4,7 +4,7 @@ ghost use lib.ListN.{length};
 ghost use Rattle.mesh.specs.Mesh.{mesh, conditions};
 ghost use Rattle.mesh.specs.Pass.{unless};
 ghost use Rattle.numerics.specs.Checks.{lengths, stencilSized, StencilChecked, slices, StencilCall};
-ghost use Rattle.numerics.specs.Gradient.{gradients, gradientChecks};
+ghost use Rattle.numerics.specs.Gradient.{gradients, lentChecks, gradientChecks};
 ghost use Rattle.numerics.specs.Outflow.{outflows, outflowChecks, Scattered};
 use mesh::Answer;
 use mesh::Counts;
@@ -139,8 +139,9 @@ pub fn least_squares_stencil(
     }
 }
 
-// The checks 1, 2, 3 and 5 of a lent stencil and a cell field; `outs` is the length of the output.
-fn check_gradient(
+// The checks 1, 2, 3 and 5 of a lent stencil and a cell field; `sized` says whether the output has its
+// length.
+pub fn check_gradient(
     counts: Counts,
     stencil: u64,
     records: usize,
@@ -150,9 +151,9 @@ fn check_gradient(
     inverses: &[f64],
     number: u64,
     field: &[f64],
-    outs: usize,
+    sized: bool,
 ) -> Answer
-    ensures { λ r. ⌜ r ≡ gradientChecks counts stencil records (slices (now (starts .entry)) (now (equations .entry)) (now (weights .entry)) (now (inverses .entry))) number (now (field .entry)) outs ⌝ }
+    ensures { λ r. ⌜ r ≡ lentChecks counts stencil records (slices (now (starts .entry)) (now (equations .entry)) (now (weights .entry)) (now (inverses .entry))) number (now (field .entry)) sized ⌝ }
 {
     if !(mesh::sizes_ok(counts) & (records <= 65535)) {
         return Answer::Refused(1, 0);
@@ -166,7 +167,7 @@ fn check_gradient(
         inverses.len(),
     )
         & (field.len() == counts.cells)
-        & mesh::is_sized(outs, 3, counts.cells)) {
+        & sized) {
         return Answer::Refused(2, 0);
     }
     if !((stencil == counts.mesh) & (number == counts.mesh)) {
@@ -206,7 +207,7 @@ pub fn least_squares_gradient(
         inverses,
         number,
         field,
-        out.len(),
+        mesh::is_sized(out.len(), 3, counts.cells),
     );
     match a {
         Answer::Accepted => {

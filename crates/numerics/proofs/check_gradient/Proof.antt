@@ -9,7 +9,7 @@ use borrow.Author.Tests.{not-true, not-false}
 use Rattle.mesh.specs.Answers.{pass, at, orElse, firstOf}
 use Rattle.mesh.proofs.Truth.{and-true}
 use Rattle.mesh.proofs.Facts.{small}
-use Rattle.numerics.specs.Gradient.{gradientChecks}
+use Rattle.numerics.specs.Gradient.{lentChecks}
 use borrow.Author.Needs.{needs}
 use Rattle.numerics.proofs.check_gradient.Statement.{statement}
 use Rattle.numerics.proofs.check_gradient.Tie as tie
@@ -17,9 +17,6 @@ use Rattle.numerics.proofs.check_gradient.Tie as tie
 -- the places before the second test, found from it
 abbrev sizedAt : tie.Else2 → tie.After-stencil-sized
 sizedAt d = search
-
-abbrev outAt : tie.Else2 → tie.After-is-sized
-outAt d = search
 
 abbrev countedAt : tie.Else2 → tie.After-sizes-ok
 countedAt d = search
@@ -34,7 +31,7 @@ sizes-ok-requires : tie.Need-sizes-ok-requires
 sizes-ok-requires c κs = search needs
 
 returns : tie.Need-returns
-unfolding gradientChecks firstOf orElse pass at
+unfolding lentChecks firstOf orElse pass at
 returns c =
     let s : tie.Start = search in
     let z : tie.After-sizes-ok = search in
@@ -43,29 +40,24 @@ returns c =
 stencil-sized-requires : tie.Need-stencil-sized-requires
 stencil-sized-requires c κs = search needs
 
-is-sized-requires : tie.Need-is-sized-requires
-is-sized-requires c κs = search needs
-
 returns-2 : tie.Need-returns-2
-unfolding gradientChecks firstOf orElse pass at
+unfolding lentChecks firstOf orElse pass at
 returns-2 c =
     let s : tie.Start = search in
     let z : tie.After-sizes-ok = search in
     let t : tie.After-stencil-sized = search in
-    let i : tie.After-is-sized = search in
     let e : tie.Else1 = search in
-    rw (← z .sizes-ok .ensures, not-false (z .sizes-ok .result && leb (s .args .records) 65535) (e .if1 .left), ← t .stencil-sized .ensures, ← i .is-sized .ensures, not-true (t .stencil-sized .result && eqb (length (now (s .args .field))) (s .args .counts .cells) && i .is-sized .result) (c .if2 .taken))
+    rw (← z .sizes-ok .ensures, not-false (z .sizes-ok .result && leb (s .args .records) 65535) (e .if1 .left), ← t .stencil-sized .ensures, not-true (t .stencil-sized .result && eqb (length (now (s .args .field))) (s .args .counts .cells) && s .args .sized) (c .if2 .taken))
 
 returns-3 : tie.Need-returns-3
-unfolding gradientChecks firstOf orElse pass at
+unfolding lentChecks firstOf orElse pass at
 returns-3 c =
     let s : tie.Start = search in
     let z : tie.After-sizes-ok = search in
     let t : tie.After-stencil-sized = search in
-    let i : tie.After-is-sized = search in
     let e : tie.Else1 = search in
     let d : tie.Else2 = search in
-    rw (← z .sizes-ok .ensures, not-false (z .sizes-ok .result && leb (s .args .records) 65535) (e .if1 .left), ← t .stencil-sized .ensures, ← i .is-sized .ensures, not-false (t .stencil-sized .result && eqb (length (now (s .args .field))) (s .args .counts .cells) && i .is-sized .result) (d .if2 .left), not-true (eqb (s .args .stencil) (s .args .counts .mesh) && eqb (s .args .number) (s .args .counts .mesh)) (c .if3 .taken))
+    rw (← z .sizes-ok .ensures, not-false (z .sizes-ok .result && leb (s .args .records) 65535) (e .if1 .left), ← t .stencil-sized .ensures, not-false (t .stencil-sized .result && eqb (length (now (s .args .field))) (s .args .counts .cells) && s .args .sized) (d .if2 .left), not-true (eqb (s .args .stencil) (s .args .counts .mesh) && eqb (s .args .number) (s .args .counts .mesh)) (c .if3 .taken))
 
 add-lowest-broken-equation : tie.Need-add-lowest-broken-equation
 add-lowest-broken-equation c =
@@ -83,7 +75,7 @@ enum-known-cell : tie.Need-enum-known-cell
 enum-known-cell c = search needs
 
 returns-4 : tie.Need-returns-4
-unfolding gradientChecks firstOf orElse pass at
+unfolding lentChecks firstOf orElse pass at
 returns-4 c =
     let d : tie.Else2 = search in
     let h : tie.Else3 = search in
@@ -91,15 +83,14 @@ returns-4 c =
     let z = countedAt d in
     let e = firstAt d in
     let t = sizedAt d in
-    let i = outAt d in
     let b : tie.After-lowest-broken-equation = search in
-    rw (← z .sizes-ok .ensures, not-false (z .sizes-ok .result && leb (s .args .records) 65535) (e .if1 .left), ← t .stencil-sized .ensures, ← i .is-sized .ensures, not-false (t .stencil-sized .result && eqb (length (now (s .args .field))) (s .args .counts .cells) && i .is-sized .result) (d .if2 .left), not-false (eqb (s .args .stencil) (s .args .counts .mesh) && eqb (s .args .number) (s .args .counts .mesh)) (h .if3 .left), ← b .lowest-broken-equation .ensures, c .before .cell .given .1)
+    rw (← z .sizes-ok .ensures, not-false (z .sizes-ok .result && leb (s .args .records) 65535) (e .if1 .left), ← t .stencil-sized .ensures, not-false (t .stencil-sized .result && eqb (length (now (s .args .field))) (s .args .counts .cells) && s .args .sized) (d .if2 .left), not-false (eqb (s .args .stencil) (s .args .counts .mesh) && eqb (s .args .number) (s .args .counts .mesh)) (h .if3 .left), ← b .lowest-broken-equation .ensures, c .before .cell .given .1)
 
 enum-told : tie.Need-enum-told
 enum-told c = search needs
 
 returns-5 : tie.Need-returns-5
-unfolding gradientChecks firstOf orElse pass at
+unfolding lentChecks firstOf orElse pass at
 returns-5 c =
     let d : tie.Else2 = search in
     let h : tie.Else3 = search in
@@ -107,9 +98,8 @@ returns-5 c =
     let z = countedAt d in
     let e = firstAt d in
     let t = sizedAt d in
-    let i = outAt d in
     let b : tie.After-lowest-broken-equation = search in
-    rw (← z .sizes-ok .ensures, not-false (z .sizes-ok .result && leb (s .args .records) 65535) (e .if1 .left), ← t .stencil-sized .ensures, ← i .is-sized .ensures, not-false (t .stencil-sized .result && eqb (length (now (s .args .field))) (s .args .counts .cells) && i .is-sized .result) (d .if2 .left), not-false (eqb (s .args .stencil) (s .args .counts .mesh) && eqb (s .args .number) (s .args .counts .mesh)) (h .if3 .left), ← b .lowest-broken-equation .ensures, c .enum-told .given .1)
+    rw (← z .sizes-ok .ensures, not-false (z .sizes-ok .result && leb (s .args .records) 65535) (e .if1 .left), ← t .stencil-sized .ensures, not-false (t .stencil-sized .result && eqb (length (now (s .args .field))) (s .args .counts .cells) && s .args .sized) (d .if2 .left), not-false (eqb (s .args .stencil) (s .args .counts .mesh) && eqb (s .args .number) (s .args .counts .mesh)) (h .if3 .left), ← b .lowest-broken-equation .ensures, c .enum-told .given .1)
 
 pub check-gradient-spec : {M : Type 1} → statement M
 check-gradient-spec =
@@ -118,7 +108,6 @@ check-gradient-spec =
     sizes-ok-requires
     returns
     stencil-sized-requires
-    is-sized-requires
     returns-2
     returns-3
     add-lowest-broken-equation

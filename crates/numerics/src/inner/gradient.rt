@@ -92,6 +92,23 @@ fn times_inverse(inverses: &[f64], c: usize, v: Vec3) -> Vec3
     }
 }
 
+// The gradient of the cell c.
+pub fn gradient_at(
+    starts: &[usize],
+    equations: &[usize],
+    weights: &[f64],
+    inverses: &[f64],
+    records: usize,
+    field: &[f64],
+    c: usize,
+) -> Vec3
+    requires { ⌜ Sloped (slices (now starts) (now equations) (now weights) (now inverses)) records (now field) × (c < length (now field)) ⌝ }
+    ensures { λ v. ⌜ v ≡ gradientAt (slices (now (starts .entry)) (now (equations .entry)) (now (weights .entry)) (now (inverses .entry))) records (now (field .entry)) c ⌝ }
+{
+    let right = right_side(starts, equations, weights, inverses, records, field, c);
+    times_inverse(inverses, c, right)
+}
+
 // The gradients of all cells, three numbers each.
 pub fn least_squares_gradient(
     starts: &[usize],
@@ -108,8 +125,7 @@ pub fn least_squares_gradient(
 {
     let mut c = 0;
     while c < field.len() {
-        let right = right_side(starts, equations, weights, inverses, records, field, c);
-        let gradient = times_inverse(inverses, c, right);
+        let gradient = gradient_at(starts, equations, weights, inverses, records, field, c);
         mesh::inner::put_vector(out, c, gradient);
         c += 1;
     }

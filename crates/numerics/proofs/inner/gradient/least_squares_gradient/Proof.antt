@@ -1,15 +1,14 @@
 -- `numerics::inner::gradient::least_squares_gradient` meets its contract: the gradients of the cells below c are written.
-use mathlib.Core.Path.{_≡_, sym, _∙_, ap, subst}
+use mathlib.Core.Path.{sym, _∙_, subst}
 use mathlib.Core.List.{List}
-use Prim.Native.Nat.{ℕ, _+_, _-_}
+use Prim.Native.Nat.{_+_, _-_}
 use native.Mathlib.Omega.{arith}
 use lib.ListN.{length}
 use lib.Ieee.{Float}
 use denote.Ref.{now}
-use Rattle.mesh.specs.declared.Vec3.{Vec3}
 use Rattle.mesh.proofs.Vectors.{Written, start, more, finish}
 use Rattle.numerics.specs.Checks.{slices}
-use Rattle.numerics.specs.Gradient.{product, gradientAt, gradients}
+use Rattle.numerics.specs.Gradient.{gradientAt, gradients}
 use Rattle.numerics.proofs.inner.gradient.least_squares_gradient.Statement.{statement}
 use Rattle.numerics.proofs.inner.gradient.least_squares_gradient.Tie as tie
 
@@ -22,17 +21,11 @@ abbrev μ-loop : tie.MeasureT-loop
 loop-holds : tie.Need-loop-holds Inv-loop μ-loop
 loop-holds c = let s : tie.Start Inv-loop μ-loop = search in start (gradientAt (slices (now (s .args .starts)) (now (s .args .equations)) (now (s .args .weights)) (now (s .args .inverses))) (s .args .records) (now (s .args .field))) (length (now (s .args .field))) (now (s .args .out)) (s .pre .1)
 
-right-side-requires : tie.Need-right-side-requires Inv-loop μ-loop
-right-side-requires c κs =
+gradient-at-requires : tie.Need-gradient-at-requires Inv-loop μ-loop
+gradient-at-requires c κs =
     let s : tie.Start Inv-loop μ-loop = search in
     let l : tie.In-loop Inv-loop μ-loop = search in
     (s .pre .0, l .loop-test .taken)
-
-times-inverse-requires : tie.Need-times-inverse-requires Inv-loop μ-loop
-times-inverse-requires c κs =
-    let s : tie.Start Inv-loop μ-loop = search in
-    let l : tie.In-loop Inv-loop μ-loop = search in
-    omega (arith, l .loop-test .taken, s .pre .0 .inverses)
 
 put-vector-requires : tie.Need-put-vector-requires Inv-loop μ-loop
 put-vector-requires c κs =
@@ -46,17 +39,13 @@ loop-less : tie.Need-loop-less Inv-loop μ-loop
 loop-less c = let l : tie.In-loop Inv-loop μ-loop = search in omega (arith, l .loop-test .taken)
 
 loop-again : tie.Need-loop-again Inv-loop μ-loop
-unfolding gradientAt
 loop-again c =
     let s : tie.Start Inv-loop μ-loop = search in
     let l : tie.In-loop Inv-loop μ-loop = search in
-    let a : tie.After-right-side Inv-loop μ-loop = search in
-    let b : tie.After-times-inverse Inv-loop μ-loop = search in
+    let g : tie.After-gradient-at Inv-loop μ-loop = search in
     let w : tie.After-put-vector Inv-loop μ-loop = search in
-    let is : b .times-inverse .result ≡ gradientAt (slices (now (s .args .starts)) (now (s .args .equations)) (now (s .args .weights)) (now (s .args .inverses))) (s .args .records) (now (s .args .field)) (l .before .loop .c) =
-    b .times-inverse .ensures ∙ ap (λ (v : Vec3). product (now (s .args .inverses)) (l .before .loop .c) v) (a .right-side .ensures) in
     subst (λ (o : List Float). Written (gradientAt (slices (now (s .args .starts)) (now (s .args .equations)) (now (s .args .weights)) (now (s .args .inverses))) (s .args .records) (now (s .args .field))) (length (now (s .args .field))) o (l .before .loop .c + 1)) (sym (w .put-vector .ensures))
-    (more (gradientAt (slices (now (s .args .starts)) (now (s .args .equations)) (now (s .args .weights)) (now (s .args .inverses))) (s .args .records) (now (s .args .field))) (length (now (s .args .field))) (l .before .loop .out) (l .before .loop .c) (b .times-inverse .result) (l .before .loop .inv) (l .loop-test .taken) is)
+    (more (gradientAt (slices (now (s .args .starts)) (now (s .args .equations)) (now (s .args .weights)) (now (s .args .inverses))) (s .args .records) (now (s .args .field))) (length (now (s .args .field))) (l .before .loop .out) (l .before .loop .c) (g .gradient-at .result) (l .before .loop .inv) (l .loop-test .taken) (g .gradient-at .ensures))
 
 same-length : tie.Need-same-length Inv-loop μ-loop
 same-length c = let s : tie.Start Inv-loop μ-loop = search in c .before .loop .inv .size ∙ sym (s .pre .1)
@@ -72,8 +61,7 @@ least-squares-gradient-spec =
     Inv-loop
     μ-loop
     loop-holds
-    right-side-requires
-    times-inverse-requires
+    gradient-at-requires
     put-vector-requires
     add-c
     loop-less

@@ -1,15 +1,20 @@
 -- How a walk of a chain goes on by one record: in the search for a broken one, and along a sound one. Assumes nothing.
-use mathlib.Core.Path.{_≡_, refl, sym, _∙_, ap}
+use mathlib.Core.Path.{_≡_, refl, sym, _∙_, ap, subst}
+use mathlib.Core.Logic.{_⊎_, inl, inr, ⊎-elim}
 use mathlib.Core.List.{List, [], _∷_}
-use mathlib.Core.Bool.{Bool, true, false, _&&_, cond}
-use Prim.Native.Nat.{ℕ, zero, suc, _+_, _*_, _-_, _<_, _≤_}
+use mathlib.Core.Bool.{Bool, true, false, not, _&&_, _||_, cond, false≢true}
+use Prim.Native.Nat.{ℕ, zero, suc, _+_, _*_, _-_, _/_, _<_, _≤_}
 use native.Mathlib.Omega.{arith}
-use native.Mathlib.Numerals.{sub-one}
-use lib.Dec.{leb, ltb, eqb·suc-zero}
+use native.Mathlib.Numerals.{sub-one, add-one}
+use lib.Dec.{leb, ltb, eqb, eqb·suc-zero}
 use lib.ListN.{length}
-use borrow.Author.Tests.{ltb-true, leb-true, eqb-true, eq-eqb, ne-eqb}
-use Rattle.mesh.specs.Chains.{itemOf, nextOf, stepOf, walk, trail, ends, Chain}
+use borrow.Author.Tests.{ltb-true, leb-true, eqb-true, eq-eqb, ne-eqb, le-leb}
+use Rattle.mesh.specs.Records.{firstAt, secondAt}
+use Rattle.mesh.specs.Chains.{itemOf, nextOf, stepOf, walk, trail, ends, Chain, leadsOn, headAt, cellCount, brokenCell, lowestBroken}
+use Rattle.mesh.specs.declared.Found.the-variants.{Nothing}
+use Rattle.mesh.specs.declared.chain.Form.{Form}
 use Rattle.mesh.specs.declared.chain.Step.the-variants.{Broken, Next}
+use Rattle.mesh.proofs.Search.{none-found}
 use Rattle.mesh.proofs.Truth.{and-true}
 
 -- ---- the search
@@ -22,6 +27,10 @@ module _ (l : List ℕ) (records limit : ℕ) where
   pub no-end : (left r : ℕ) → left ≡ 0 → (r ≡ 0 → ⊥) → ends l records limit left r ≡ false
   unfolding ends
   no-end left r e z = rw (e, ne-eqb _ _ z)
+
+  pub opened : (left q : ℕ) → leb (suc q) records ≡ true → ltb (itemOf l (suc q)) limit ≡ true → ends l records limit left (nextOf l (suc q)) ≡ true → ends l records limit (suc left) (suc q) ≡ true
+  unfolding ends
+  opened left q a b c = rw (eqb·suc-zero, a, b, c)
 
   -- a step that breaks ends no chain, and one that goes on leaves the end to the next record
   broken-step : (a b h : Bool) (n : ℕ) → cond (a && b) (Next n) Broken ≡ Broken → (a && (b && h)) ≡ false
@@ -45,6 +54,57 @@ module _ (l : List ℕ) (records limit : ℕ) where
   goes-on (suc left) r q n z e =
       let w = next-step (leb r records) (ltb (itemOf l r) limit) (ends l records limit left (nextOf l r)) (nextOf l r) q e in
       rw (ne-eqb _ _ z, sub-one, ← w .1) (sym (w .0))
+
+-- ---- records in order
+module _ (l : List ℕ) (limit : ℕ) (lead : (i : ℕ) → i < length l / 2 → leadsOn limit l i ≡ true) where
+  -- a record that leads on: its item is below the limit, and what follows is no record or a later one
+  abbrev Later : ℕ → Type 0
+  Later q = (nextOf l (suc q) ≡ 0) ⊎ ((suc q < nextOf l (suc q)) × (nextOf l (suc q) ≤ length l / 2))
+
+  leads : (q : ℕ) → q < length l / 2 → (ltb (itemOf l (suc q)) limit ≡ true) × Later q
+  unfolding leadsOn
+  leads q h = rw sub-one (split (firstAt l q) (secondAt l q) (lead q h))
+    where
+      later : (n : ℕ) (a b c : Bool) → a ≡ eqb n 0 → b ≡ ltb (q + 1) n → c ≡ leb n (length l / 2) → (a || (b && c)) ≡ true → (n ≡ 0) ⊎ ((suc q < n) × (n ≤ length l / 2))
+      later n true b c d e f h = inl (eqb-true n 0 (sym d))
+      later n false true true d e f h = inr (subst (λ (k : ℕ). k < n) (add-one q) (ltb-true (q + 1) n (sym e)), leb-true n (length l / 2) (sym f))
+      later n false true false d e f h = absurd (false≢true h)
+      later n false false c d e f h = absurd (false≢true h)
+
+      split : (i n : ℕ) → (ltb i limit && (eqb n 0 || (ltb (q + 1) n && leb n (length l / 2)))) ≡ true → (ltb i limit ≡ true) × ((n ≡ 0) ⊎ ((suc q < n) × (n ≤ length l / 2)))
+      split i n e = let w = and-true (ltb i limit) (eqb n 0 || (ltb (q + 1) n && leb n (length l / 2))) e in (w .0, later n (eqb n 0) (ltb (q + 1) n) (leb n (length l / 2)) refl refl refl (w .1))
+
+  -- a chain from a record on ends within as many records as there are from it on
+  abbrev InOrder : ℕ → Type 0
+  InOrder left = (r : ℕ) → r ≤ length l / 2 → (r ≡ 0) ⊎ (length l / 2 < left + r) → ends l (length l / 2) limit left r ≡ true
+
+  one-on : (left : ℕ) → InOrder left → InOrder (suc left)
+  one-on left more zero h d = ended l (length l / 2) limit (suc left) zero refl
+  one-on left more (suc q) h d =
+      let w = leads q (omega (arith, h)) in
+      let rest : ends l (length l / 2) limit left (nextOf l (suc q)) ≡ true =
+      ⊎-elim
+      (λ e. ended l (length l / 2) limit left (nextOf l (suc q)) e)
+      (λ v. more (nextOf l (suc q)) (v .1) (inr (room d (v .0))))
+      (w .1) in
+      opened l (length l / 2) limit left q (le-leb _ _ h) (w .0) rest
+    where
+      room : {n next : ℕ} → (suc q ≡ 0) ⊎ (n < suc left + suc q) → suc q < next → n < left + next
+      room (inl e) k = absurd (omega (arith, e))
+      room (inr m) k = omega (arith, m, k)
+
+  ends-in-order : (left : ℕ) → InOrder left
+  ends-in-order zero r h d = ⊎-elim (λ e. ended l (length l / 2) limit zero r e) (λ k. absurd (omega (arith, h, k))) d
+  ends-in-order (suc left) r h d = one-on left (ends-in-order left) r h d
+
+  pub none-broken : (form : Form) (heads : List ℕ) → ((cell : ℕ) → cell < cellCount form heads → headAt form heads cell ≤ length l / 2) → lowestBroken limit l form heads ≡ Nothing
+  unfolding brokenCell
+  none-broken form heads within =
+      none-found (brokenCell limit l form heads) (cellCount form heads) (λ cell h. ap not (ends-in-order (length l / 2) (headAt form heads cell) (within cell h) (first (headAt form heads cell))))
+    where
+      first : (r : ℕ) → (r ≡ 0) ⊎ (length l / 2 < length l / 2 + r)
+      first zero = inl refl
+      first (suc r) = inr (omega arith)
 
 -- ---- a sound chain
 pub walk-over : (l : List ℕ) (n r : ℕ) → r ≡ 0 → walk l n r ≡ []

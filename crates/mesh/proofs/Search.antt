@@ -1,5 +1,5 @@
 -- How a search goes on by one index, and what its end says. Assumes nothing.
-use mathlib.Core.Path.{_≡_, refl}
+use mathlib.Core.Path.{_≡_, refl, sym, subst}
 use mathlib.Core.Logic.{⊎-elim}
 use mathlib.Core.Bool.{Bool, true, false, cond}
 use lib.Dec.{ltb}
@@ -81,3 +81,19 @@ names-lowest g n = go (lowestWhere g n) refl
     go : (f : Found) → lowestWhere g n ≡ f → Names g n f
     go Nothing e = e
     go (At i) e = lowest-found g n i e
+
+-- what holds at every index below i, at the start and one index on
+pub below-none : (P : ℕ → Type 0) (j : ℕ) → j < 0 → P j
+below-none P j h = absurd (omega (arith, h))
+
+pub below-more : (P : ℕ → Type 0) (i : ℕ) → ((j : ℕ) → j < i → P j) → P i → (j : ℕ) → j < i + 1 → P j
+below-more P i h p j l = ⊎-elim (λ e. subst P (sym e) p) (λ lt. h j lt) (eq-or-lt-of-le (at-most j i l))
+  where
+    at-most : (a b : ℕ) → a < b + 1 → a ≤ b
+    at-most a b q = omega (arith, q)
+
+-- where the test fails at each index, nothing is found
+pub none-found : (g : ℕ → Bool) (n : ℕ) → ((i : ℕ) → i < n → g i ≡ false) → lowestWhere g n ≡ Nothing
+unfolding lowestWhere orAt
+none-found g zero h = refl
+none-found g (suc n) h = rw (none-found g n (λ i l. h i (omega (arith, l))), h n (omega arith))

@@ -1,8 +1,8 @@
 -- Chains of records of two numbers, an item and the next record. Records count from 1, and 0 ends a chain. Definitions only.
 use mathlib.Core.Path.{_≡_}
 use mathlib.Core.List.{List, [], _∷_}
-use mathlib.Core.Bool.{Bool, true, false, not, _&&_, cond}
-use Prim.Native.Nat.{ℕ, zero, suc, _-_, _/_, _≤_}
+use mathlib.Core.Bool.{Bool, true, false, not, _&&_, _||_, cond}
+use Prim.Native.Nat.{ℕ, zero, suc, _+_, _-_, _/_, _≤_, _<_}
 use lib.Dec.{eqb, leb, ltb}
 use lib.ListN.{length, getD}
 use Rattle.mesh.specs.Records.{firstAt, secondAt}
@@ -45,6 +45,19 @@ brokenCell limit l form heads cell = not (ends l (length l / 2) limit (length l 
 
 abbrev pub lowestBroken : ℕ → List ℕ → Form → List ℕ → Found
 lowestBroken limit l form heads = lowestWhere (brokenCell limit l form heads) (cellCount form heads)
+
+-- ---- records in order: no chain of theirs is broken, and no walk is needed to know
+
+-- the record i, from 0, has an item below the limit, and ends its chain or leads to a later record
+unfoldable pub leadsOn : ℕ → List ℕ → ℕ → Bool
+leadsOn limit l i = ltb (firstAt l i) limit && (eqb (secondAt l i) 0 || (ltb (i + 1) (secondAt l i) && leb (secondAt l i) (length l / 2)))
+
+-- what is known where every record does, and where no cell's first record is missing
+abbrev pub AllLeadOn : Bool → ℕ → List ℕ → Type 0
+AllLeadOn b limit l = b ≡ true → (i : ℕ) → i < length l / 2 → leadsOn limit l i ≡ true
+
+abbrev pub HeadsWithin : Bool → ℕ → Form → List ℕ → Type 0
+HeadsWithin b records form heads = b ≡ true → (cell : ℕ) → cell < cellCount form heads → headAt form heads cell ≤ records
 
 -- ---- the chain as a list
 

@@ -1,10 +1,12 @@
 // The search for the lowest cell whose chain of records is broken.
 ghost use mathlib.Core.Path.{_≡_};
-ghost use Prim.Native.Nat.{_/_, _<_};
+ghost use Prim.Native.Nat.{_+_, _*_, _/_, _<_};
 ghost use lib.ListN.{length};
-ghost use Rattle.mesh.specs.Chains.{stepOf, headAt, cellCount, lowestBroken};
+ghost use Rattle.mesh.specs.Chains.{stepOf, headAt, cellCount, lowestBroken, leadsOn, AllLeadOn, HeadsWithin};
 use crate::Found;
 use crate::first_at;
+use crate::inner::first_of;
+use crate::inner::second_of;
 use crate::number_at;
 use crate::second_at;
 
@@ -57,8 +59,68 @@ fn cell_count(form: Form, heads: &[usize]) -> usize
     }
 }
 
-// Both walks, over the cells and over a cell's records, stop at the first broken record.
+// Whether record i, from 0, has an item below the limit, and ends its chain or leads to a later record.
+fn leads_on(limit: usize, records: &[usize], i: usize) -> bool
+    requires { ⌜ 2 * i + 1 < length (now records) ⌝ }
+    ensures { λ r. ⌜ r ≡ leadsOn limit (now (records .entry)) i ⌝ }
+{
+    if limit <= first_of(records, i) {
+        return false;
+    }
+    let next = second_of(records, i);
+    if next == 0 {
+        return true;
+    }
+    if next <= i + 1 {
+        return false;
+    }
+    next <= records.len() / 2
+}
+
+// Whether every record does, so that each chain of them ends.
+fn all_lead_on(limit: usize, records: &[usize]) -> bool
+    ensures { λ r. ⌜ AllLeadOn r limit (now (records .entry)) ⌝ }
+{
+    let mut i = 0;
+    while i < records.len() / 2 {
+        if !leads_on(limit, records, i) {
+            return false;
+        }
+        i += 1;
+    }
+    true
+}
+
+// Whether no cell's first record is beyond so many records.
+fn heads_within(records: usize, form: Form, heads: &[usize]) -> bool
+    ensures { λ r. ⌜ HeadsWithin r records form (now (heads .entry)) ⌝ }
+{
+    let cells = cell_count(form, heads);
+    let mut cell = 0;
+    while cell < cells {
+        if records < head_at(form, heads, cell) {
+            return false;
+        }
+        cell += 1;
+    }
+    true
+}
+
+// The lowest cell whose chain is broken. Records that all lead on need no walk: to read them in order
+// takes two thirds of its time.
 pub(crate) fn lowest_broken(limit: usize, records: &[usize], form: Form, heads: &[usize]) -> Found
+    ensures { λ r. ⌜ r ≡ lowestBroken limit (now (records .entry)) form (now (heads .entry)) ⌝ }
+{
+    if all_lead_on(limit, records) {
+        if heads_within(records.len() / 2, form, heads) {
+            return Found::Nothing;
+        }
+    }
+    lowest_walked(limit, records, form, heads)
+}
+
+// Both walks, over the cells and over a cell's records, stop at the first broken record.
+fn lowest_walked(limit: usize, records: &[usize], form: Form, heads: &[usize]) -> Found
     ensures { λ r. ⌜ r ≡ lowestBroken limit (now (records .entry)) form (now (heads .entry)) ⌝ }
 {
     let cells = cell_count(form, heads);

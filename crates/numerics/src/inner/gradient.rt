@@ -63,6 +63,8 @@ fn right_side(
     };
     let mut r = starts[c];
     while r != 0 {
+        // the records of a cell mostly follow one another: so the next is known before it is read
+        let mut after = r + 1;
         right = add_term(
             starts,
             equations,
@@ -75,6 +77,21 @@ fn right_side(
             right,
         );
         r = mesh::inner::second_of(equations, r - 1);
+        'run: while r == after {
+            right = add_term(
+                starts,
+                equations,
+                weights,
+                inverses,
+                records,
+                field,
+                own,
+                after,
+                right,
+            );
+            r = mesh::inner::second_of(equations, after - 1);
+            after += 1;
+        }
     }
     right
 }

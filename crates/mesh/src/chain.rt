@@ -106,8 +106,7 @@ fn heads_within(records: usize, form: Form, heads: &[usize]) -> bool
     true
 }
 
-// The lowest cell whose chain is broken. Records that all lead on need no walk: to read them in order
-// takes two thirds of its time.
+// The lowest cell whose chain is broken. Records that all lead on need no walk.
 pub(crate) fn lowest_broken(limit: usize, records: &[usize], form: Form, heads: &[usize]) -> Found
     ensures { λ r. ⌜ r ≡ lowestBroken limit (now (records .entry)) form (now (heads .entry)) ⌝ }
 {

@@ -76,8 +76,7 @@ fn first_late(a: Answer, k: u64, i: usize) -> Answer
 }
 
 // The first refusal of the second sequence, with what item i comes to. A loop asks for it only where the
-// item is late: an answer that is handed over at every turn is copied in pieces, which costs more than
-// the arithmetic of a face.
+// item is late: an answer that is handed over at every turn is copied in pieces, which held the pass up.
 pub fn with_late(a: Answer, s: Stage, i: usize) -> Answer
     ensures { λ r. ⌜ r ≡ lateAfter a s i ⌝ }
 {

@@ -11,11 +11,10 @@ fn source_value(field: &[f64], own: f64, source: usize, value: f64) -> f64
     requires { ⌜ source < length (now field) + 2 ⌝ }
     ensures { λ r. ⌜ r ≡ sourceValue (now (field .entry)) own source value ⌝ }
 {
-    match source {
-        0 => own,
-        1 => value,
-        _ => field[source - 2],
+    if source < 2 {
+        return if source == 0 { own } else { value };
     }
+    field[source - 2]
 }
 
 // The right side with the term of the record r.
@@ -78,6 +77,8 @@ fn right_side(
         );
         r = mesh::inner::second_of(equations, r - 1);
         'run: while r == after {
+            let here = after;
+            after += 1;
             right = add_term(
                 starts,
                 equations,
@@ -86,11 +87,10 @@ fn right_side(
                 records,
                 field,
                 own,
-                after,
+                here,
                 right,
             );
-            r = mesh::inner::second_of(equations, after - 1);
-            after += 1;
+            r = mesh::inner::second_of(equations, here - 1);
         }
     }
     right

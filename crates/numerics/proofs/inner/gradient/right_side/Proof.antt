@@ -129,6 +129,11 @@ module _ (c : tie.In-run Inv-run μ-run Inv-loop μ-loop) where
   left : Left (lent start) (start .args .records) (now (start .args .field)) (start .args .c) (c .before .run .right) (c .before .run .after)
   left = subst (λ (r : ℕ). Left (lent start) (start .args .records) (now (start .args .field)) (start .args .c) (c .before .run .right) r) (c .run-test .taken) (c .before .run .inv .0)
 
+add-after-2 : tie.Need-add-after-2 Inv-run μ-run Inv-loop μ-loop
+add-after-2 c =
+    let i : tie.In-run Inv-run μ-run Inv-loop μ-loop = search in
+    omega (arith, small (start i) (i .before .run .right) (i .before .run .after) (left i) (nonzero i), start i .good .1 .0 .0)
+
 add-term-requires-2 : tie.Need-add-term-requires-2 Inv-run μ-run Inv-loop μ-loop
 add-term-requires-2 c κs =
     let i : tie.In-run Inv-run μ-run Inv-loop μ-loop = search in
@@ -142,11 +147,6 @@ second-of-requires-2 : tie.Need-second-of-requires-2 Inv-run μ-run Inv-loop μ-
 second-of-requires-2 c κs =
     let i : tie.In-run Inv-run μ-run Inv-loop μ-loop = search in
     room-for (start i) (i .before .run .right) (i .before .run .after) (left i) (nonzero i)
-
-add-after-2 : tie.Need-add-after-2 Inv-run μ-run Inv-loop μ-loop
-add-after-2 c =
-    let i : tie.In-run Inv-run μ-run Inv-loop μ-loop = search in
-    omega (arith, small (start i) (i .before .run .right) (i .before .run .after) (left i) (nonzero i), start i .good .1 .0 .0)
 
 run-less : tie.Need-run-less Inv-run μ-run Inv-loop μ-loop
 run-less c =
@@ -190,10 +190,10 @@ right-side-spec =
     run-holds
     loop-less
     loop-again
+    add-after-2
     add-term-requires-2
     sub-second-of-2
     second-of-requires-2
-    add-after-2
     run-less
     run-again
     returns)

@@ -7,7 +7,8 @@ ghost use Rattle.mesh.specs.Answers.{orElse};
 ghost use Rattle.mesh.specs.Mesh.{mesh, conditions};
 ghost use Rattle.mesh.specs.Pass.{handedOut, unless};
 ghost use Rattle.mesh.specs.declared.Answer.{Answer};
-ghost use Rattle.numerics.specs.Checks.{slices, StencilCall};
+ghost use Rattle.numerics.specs.Slices.{slices};
+ghost use Rattle.stencil.specs.Checks.{StencilCall};
 ghost use Rattle.numerics.specs.Gradient.{gradients, gradientChecks};
 ghost use Rattle.numerics.specs.Outflow.{outflows, outflowChecks};
 ghost use Rattle.predictor.specs.Boundary.{BoundaryCall};
@@ -51,7 +52,7 @@ pub extern "C" fn juvandeer_sqrt(x: f64) -> f64
     binary64::sqrt(x)
 }
 
-// `numerics::least_squares_stencil`.
+// `stencil::least_squares_stencil`.
 #[no_mangle]
 pub extern "C" fn juvandeer_least_squares_stencil(
     counts: Counts,
@@ -73,7 +74,7 @@ pub extern "C" fn juvandeer_least_squares_stencil(
 ) -> u64
     ensures { λ r. ⌜ Told (λ (a : Answer). StencilCall (mesh counts (now (adjacency .entry)) (now (geometry .entry)) (now (heads .entry)) (now (places .entry)) (now (facing .entry)) (now (bordering .entry))) (conditions number (now (codes .entry)) (now (values .entry))) records (slices (now (starts .entry)) (now (equations .entry)) (now (weights .entry)) (now (inverses .entry))) a (slices (now (starts .exit)) (now (equations .exit)) (now (weights .exit)) (now (inverses .exit)))) r (now (index .exit)) ⌝ }
 {
-    let a = numerics::least_squares_stencil(
+    let a = stencil::least_squares_stencil(
         counts,
         adjacency,
         geometry,

@@ -11,7 +11,7 @@ use lib.Ieee.Scale.{finite}
 use Rattle.binary64.specs.Numbers.{zero64, isFinite, isUsable, _⊖_, _⊗_}
 use Rattle.binary64.specs.Units.{Opposite}
 use Rattle.binary64.proofs.Opposites.{sub-swap, sub-opposed, mul-opposed}
-use Rattle.mesh.specs.Records.{firstAt, secondAt}
+use Rattle.chain.specs.Pairs.{firstAt, secondAt}
 use Rattle.mesh.specs.declared.Answer.the-variants.{Accepted}
 use Rattle.mesh.specs.declared.Outcome.{Outcome}
 use Rattle.mesh.specs.declared.Outcome.the-variants.{Value, Bad}

@@ -8,7 +8,8 @@ use lib.ListN.{length, getD}
 use lib.Ieee.{Float, nan}
 use Rattle.mesh.specs.Facts.{CellsOf}
 use Rattle.mesh.specs.Pass.{firstRefusal, valuesOf}
-use Rattle.mesh.specs.Records.{firstAt, secondAt, conditionAt}
+use Rattle.chain.specs.Pairs.{firstAt, secondAt}
+use Rattle.mesh.specs.Records.{conditionAt}
 use Rattle.mesh.specs.declared.Answer.{Answer}
 use Rattle.mesh.specs.declared.Condition.{Condition}
 use Rattle.mesh.specs.declared.Condition.the-variants.{Absent, Fixed, ZeroGradient}

@@ -12,7 +12,7 @@ use Rattle.binary64.specs.Root.{root}
 use Rattle.mesh.specs.Answers.{at, orElse, shape}
 use Rattle.mesh.specs.Checks.{sizesOk, lowestBadFace}
 use Rattle.mesh.specs.Pass.{firstRefusal, valueOf, handedOut, unless}
-use Rattle.mesh.specs.Search.{everyOf}
+use Rattle.chain.specs.Search.{everyOf}
 use Rattle.mesh.specs.declared.Answer.{Answer}
 use Rattle.mesh.specs.declared.Answer.the-variants.{Accepted, Refused}
 use Rattle.mesh.specs.declared.Counts.{Counts}

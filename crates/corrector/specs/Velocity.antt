@@ -7,12 +7,11 @@ use lib.ListN.{length, getD}
 use lib.Ieee.{Float, nan}
 use Rattle.mesh.specs.Answers.{at, shape}
 use Rattle.mesh.specs.Checks.{sizesOk}
-use Rattle.mesh.specs.Pass.{vectorsOf}
-use Rattle.mesh.specs.Records.{vectorAt}
-use Rattle.mesh.specs.Search.{everyOf, lowestWhere}
+use Rattle.vector.specs.Vector.{vectorsOf, vectorAt}
+use Rattle.chain.specs.Search.{everyOf, lowestWhere}
 use Rattle.mesh.specs.declared.Answer.{Answer}
 use Rattle.mesh.specs.declared.Counts.{Counts}
-use Rattle.mesh.specs.declared.Vec3.{Vec3}
+use Rattle.vector.specs.declared.Vec3.{Vec3}
 use Rattle.coupling.specs.Cell.{correctedVelocity, stands}
 use Rattle.coupling.specs.Grid.{Field}
 

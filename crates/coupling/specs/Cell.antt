@@ -2,8 +2,8 @@
 use mathlib.Core.Bool.{Bool, _&&_, cond}
 use lib.Ieee.{Float}
 use Rattle.binary64.specs.Numbers.{one64, isFinite, isUsable, magnitude, _⊘_}
-use Rattle.mesh.specs.Vector.{difference, scaled}
-use Rattle.mesh.specs.declared.Vec3.{Vec3}
+use Rattle.vector.specs.Vector.{difference, scaled}
+use Rattle.vector.specs.declared.Vec3.{Vec3}
 use Rattle.mesh.specs.declared.Outcome.{Outcome}
 use Rattle.mesh.specs.declared.Outcome.the-variants.{Value, Bad}
 

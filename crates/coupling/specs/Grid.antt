@@ -7,12 +7,13 @@ use lib.Dec.{eqb}
 use lib.ListN.{length, getD}
 use lib.Ieee.{Float, nan}
 use Rattle.mesh.specs.Facts.{CellsOf}
-use Rattle.mesh.specs.Records.{firstAt, secondAt, vectorAt, faceAt}
-use Rattle.mesh.specs.Search.{everyOf}
-use Rattle.mesh.specs.Vector.{norm, difference}
+use Rattle.chain.specs.Pairs.{firstAt, secondAt}
+use Rattle.vector.specs.Vector.{vectorAt, norm, difference}
+use Rattle.mesh.specs.Records.{faceAt}
+use Rattle.chain.specs.Search.{everyOf}
 use Rattle.mesh.specs.declared.Counts.{Counts}
 use Rattle.mesh.specs.declared.Face.{Face}
-use Rattle.mesh.specs.declared.Vec3.{Vec3}
+use Rattle.vector.specs.declared.Vec3.{Vec3}
 use Rattle.coupling.specs.Face.{pair}
 use Rattle.coupling.specs.declared.Pair.{Pair}
 use Rattle.coupling.specs.declared.Span.{Span}

@@ -5,7 +5,7 @@ ghost use mathlib.Core.Path.{_≡_};
 ghost use Rattle.coupling.specs.Cell.{inverseDiagonal, correctedVelocity, stands, divergence};
 ghost use Rattle.coupling.specs.Face.{distances, faceResponse, projected, positive, internalCoefficient, linkedCoefficient, fixedCoefficient, mixed, predicted, predictedFlux, correctedFlux};
 use mesh::Outcome;
-use mesh::Vec3;
+use vector::Vec3;
 
 // A face's centre and area vector, and the centres on its two sides.
 pub struct Span {

@@ -14,6 +14,7 @@ mod change;
 mod coefficients;
 mod correction;
 mod diagonal;
+mod equations;
 mod gradient;
 mod metrics;
 mod one;
@@ -21,7 +22,6 @@ mod outflow;
 mod output;
 mod prediction;
 mod slice;
-mod stencil;
 mod table;
 mod two;
 mod velocity;
@@ -64,7 +64,7 @@ fn show(
     x: &[f64; FLOATS],
 ) {
     match kind {
-        17 => stencil::show(counts, records, n, m, w, x),
+        17 => equations::show(counts, records, n, m, w, x),
         21 | 25 => two::show(kind, counts, records, n, m, w, x),
         26 => whole_step::show(counts, records, n, m, w, x),
         _ => one::show(kind, counts, records, n, m, w, x),
@@ -86,7 +86,7 @@ fn run(kind: usize, name: &[u8], case: Case) {
 
 pub(crate) fn all() {
     diagonal::cases();
-    stencil::cases();
+    equations::cases();
     gradient::cases();
     coefficients::cases();
     boundary::cases();

@@ -5,8 +5,8 @@ use lib.Dec.{eqb}
 use lib.Ieee.{Float, binary64}
 use Rattle.binary64.specs.Root.{root}
 use Rattle.binary64.specs.Numbers.{zero64, one64, eps, isFinite, magnitude, larger, _⊕_, _⊖_, _⊗_, _⊘_}
-use Rattle.mesh.specs.Vector.{vec}
-use Rattle.mesh.specs.declared.Vec3.{Vec3}
+use Rattle.vector.specs.Vector.{vec}
+use Rattle.vector.specs.declared.Vec3.{Vec3}
 use Rattle.matrix.specs.declared.Normal.{Normal}
 use Rattle.matrix.specs.declared.Lower.{Lower}
 use Rattle.matrix.specs.declared.Pivot.{Pivot}

@@ -1,7 +1,7 @@
 // The normal matrix of a least-squares stencil and its inverse.
 ghost use mathlib.Core.Path.{_≡_};
 ghost use Rattle.matrix.specs.Normal.{outer, allFinite, inverse2, inverse3, pivot, solve, inverse, columns, factored};
-use mesh::Vec3;
+use vector::Vec3;
 
 // The nine numbers of a matrix, row by row.
 pub struct Normal {

@@ -10,19 +10,19 @@ use lib.Dec.{eqb, leb, ltb}
 use lib.ListN.{length}
 use borrow.Author.Tests.{eqb-true, eqb-false, ltb-true, ltb-false, leb-true, leb-false, not-false}
 use Rattle.mesh.specs.Answers.{orElse, firstOf, pass, at, shape}
-use Rattle.mesh.specs.Records.{firstAt, secondAt}
-use Rattle.mesh.specs.Search.{someOf, lowestWhere, Names}
+use Rattle.chain.specs.Pairs.{firstAt, secondAt}
+use Rattle.chain.specs.Search.{someOf, lowestWhere, Names}
 use Rattle.mesh.specs.Checks.{sizeTests, sizesOk, badFace, lowestBadFace, unknownCode, lowestUnknownCode, badLink, NamesBadLink}
-use Rattle.mesh.specs.Chains.{ends, headAt, cellCount, brokenCell, lowestBroken}
+use Rattle.chain.specs.Chains.{ends, headAt, cellCount, brokenCell, lowestBroken}
 use Rattle.mesh.specs.Facts.{Small, CellsOf, FacesIn, CodesIn, ChainsIn, LinkOf, LinksIn}
 use Rattle.mesh.specs.declared.Counts.{Counts}
 use Rattle.mesh.specs.declared.Answer.{Answer}
 use Rattle.mesh.specs.declared.Answer.the-variants.{Accepted, Refused}
-use Rattle.mesh.specs.declared.Found.{Found}
-use Rattle.mesh.specs.declared.Found.the-variants.{Nothing, At}
-use Rattle.mesh.specs.declared.chain.Form.{Form}
-use Rattle.mesh.proofs.Truth.{every-at, some-at}
-use Rattle.mesh.proofs.Search.{none-below}
+use Rattle.chain.specs.declared.Found.{Found}
+use Rattle.chain.specs.declared.Found.the-variants.{Nothing, At}
+use Rattle.chain.specs.declared.walk.Form.{Form}
+use Rattle.chain.proofs.Truth.{every-at, some-at}
+use Rattle.chain.proofs.Search.{none-below}
 
 -- ---- answers
 pub both-accepted : (a b : Answer) → orElse a b ≡ Accepted → (a ≡ Accepted) × (b ≡ Accepted)

@@ -8,18 +8,18 @@ use lib.Dec.{eqb}
 use lib.ListN.{length}
 use borrow.Author.Tests.{eqb-true}
 use Rattle.mesh.specs.Answers.{pass, at, orElse, firstOf}
-use Rattle.mesh.specs.Search.{lower}
+use Rattle.chain.specs.Search.{lower}
 use Rattle.mesh.specs.Checks.{sizesOk, lowestBadFace, lowestUnknownCode, NamesBadLink}
-use Rattle.mesh.specs.Chains.{lowestBroken, Chain}
-use Rattle.mesh.specs.Records.{firstAt, secondAt}
+use Rattle.chain.specs.Chains.{lowestBroken, Chain}
+use Rattle.chain.specs.Pairs.{firstAt, secondAt}
 use Rattle.mesh.specs.Mesh.{Mesh, Conditions, meshSizes, meshSized, conditionsSized, topology, TopologyChecked, checks, Checked, Sized, Sound, Good}
 use Rattle.mesh.specs.declared.Answer.{Answer}
 use Rattle.mesh.specs.declared.Answer.the-variants.{Accepted}
-use Rattle.mesh.specs.declared.Found.{Found}
-use Rattle.mesh.specs.declared.Found.the-variants.{Nothing}
-use Rattle.mesh.specs.declared.chain.Form.the-variants.{First, Second}
-use Rattle.mesh.proofs.Truth.{and-true, every-at}
-use Rattle.mesh.proofs.Search.{none-lower}
+use Rattle.chain.specs.declared.Found.{Found}
+use Rattle.chain.specs.declared.Found.the-variants.{Nothing}
+use Rattle.chain.specs.declared.walk.Form.the-variants.{First, Second}
+use Rattle.chain.proofs.Truth.{and-true, every-at}
+use Rattle.chain.proofs.Search.{none-lower}
 use Rattle.mesh.proofs.Facts.{both-accepted, passed, nothing-at, small, faces-in, chains-in, links-in}
 
 pub sized : (m : Mesh) → meshSized m ≡ true → Sized m

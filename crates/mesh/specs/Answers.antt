@@ -4,8 +4,8 @@ use mathlib.Core.Bool.{Bool, true, false}
 use Prim.Native.Nat.{ℕ}
 use Rattle.mesh.specs.declared.Answer.{Answer}
 use Rattle.mesh.specs.declared.Answer.the-variants.{Accepted, Refused}
-use Rattle.mesh.specs.declared.Found.{Found}
-use Rattle.mesh.specs.declared.Found.the-variants.{Nothing, At}
+use Rattle.chain.specs.declared.Found.{Found}
+use Rattle.chain.specs.declared.Found.the-variants.{Nothing, At}
 
 -- a test that has to pass, or refusal k with index 0
 unfoldable pub pass : ℕ → Bool → Answer

@@ -5,10 +5,10 @@ use mathlib.Core.Bool.{Bool, true, false, not, _||_, cond}
 use Prim.Native.Nat.{ℕ, _+_, _-_, _/_}
 use lib.Dec.{eqb, leb, ltb}
 use lib.ListN.{length}
-use Rattle.mesh.specs.Records.{firstAt, secondAt}
-use Rattle.mesh.specs.Search.{everyOf, someOf, lowestWhere, Names}
+use Rattle.chain.specs.Pairs.{firstAt, secondAt}
+use Rattle.chain.specs.Search.{everyOf, someOf, lowestWhere, Names}
 use Rattle.mesh.specs.declared.Counts.{Counts}
-use Rattle.mesh.specs.declared.Found.{Found}
+use Rattle.chain.specs.declared.Found.{Found}
 
 -- 1: no cell, a count over 65,535, or a dimension that is not 2 or 3, is refused
 abbrev pub sizeTests : Counts → List Bool

@@ -3,10 +3,10 @@ use mathlib.Core.Path.{_≡_}
 use mathlib.Core.List.{List}
 use Prim.Native.Nat.{ℕ, _+_, _-_, _/_, _≤_, _<_}
 use lib.ListN.{length}
-use Rattle.mesh.specs.Records.{firstAt, secondAt}
-use Rattle.mesh.specs.Chains.{Chain, headAt, cellCount}
+use Rattle.chain.specs.Pairs.{firstAt, secondAt}
+use Rattle.chain.specs.Chains.{Chain, headAt, cellCount}
 use Rattle.mesh.specs.declared.Counts.{Counts}
-use Rattle.mesh.specs.declared.chain.Form.{Form}
+use Rattle.chain.specs.declared.walk.Form.{Form}
 
 -- by check 1
 pub record Small (n : Counts) : Type 0 where

@@ -1,9 +1,6 @@
 pub mod Answers
-pub mod Vector
 pub mod Records
-pub mod Search
 pub mod Checks
-pub mod Chains
 pub mod Pass
 pub mod Facts
 pub mod Mesh

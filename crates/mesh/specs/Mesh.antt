@@ -7,15 +7,15 @@ use lib.Dec.{eqb}
 use lib.ListN.{length}
 use lib.Ieee.{Float}
 use Rattle.mesh.specs.Answers.{pass, at, firstOf}
-use Rattle.mesh.specs.Search.{everyOf, lower}
+use Rattle.chain.specs.Search.{everyOf, lower}
 use Rattle.mesh.specs.Checks.{sizesOk, lowestBadFace, lowestUnknownCode, NamesBadLink}
-use Rattle.mesh.specs.Chains.{lowestBroken, Chain, headAt}
+use Rattle.chain.specs.Chains.{lowestBroken, Chain, headAt}
 use Rattle.mesh.specs.Facts.{Small, CellsOf, LinkOf}
-use Rattle.mesh.specs.Records.{firstAt, secondAt}
+use Rattle.chain.specs.Pairs.{firstAt, secondAt}
 use Rattle.mesh.specs.declared.Answer.{Answer}
 use Rattle.mesh.specs.declared.Counts.{Counts}
-use Rattle.mesh.specs.declared.Found.{Found}
-use Rattle.mesh.specs.declared.chain.Form.the-variants.{First, Second}
+use Rattle.chain.specs.declared.Found.{Found}
+use Rattle.chain.specs.declared.walk.Form.the-variants.{First, Second}
 
 pub record Mesh : Type 0 where
   pub counts : Counts

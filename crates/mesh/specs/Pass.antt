@@ -1,10 +1,9 @@
 -- A pass over faces or cells in order: the first refusal, the list of all values, and what is handed out. Definitions only.
 use mathlib.Core.List.{List, [], _∷_, _++_}
-use Prim.Native.Nat.{ℕ, zero, suc, _+_, _*_}
-use lib.ListN.{set, replicate}
+use Prim.Native.Nat.{ℕ, zero, suc}
+use lib.ListN.{replicate}
 use lib.Ieee.{Float}
 use Rattle.binary64.specs.Numbers.{zero64}
-use Rattle.mesh.specs.declared.Vec3.{Vec3}
 use Rattle.mesh.specs.declared.Outcome.{Outcome}
 use Rattle.mesh.specs.declared.Outcome.the-variants.{Value, Bad}
 use Rattle.mesh.specs.declared.Answer.{Answer}
@@ -32,14 +31,6 @@ listOf h (suc n) = listOf h n ++ (h n ∷ [])
 
 abbrev pub valuesOf : (ℕ → Outcome) → ℕ → List Float
 valuesOf g n = listOf (λ i. valueOf (g i)) n
-
--- the numbers of the vectors h 0, .., h (n - 1), three of each, and a list with one of them written
-unfoldable pub vectorsOf : (ℕ → Vec3) → ℕ → List Float
-vectorsOf h zero = []
-vectorsOf h (suc n) = vectorsOf h n ++ (h n .x ∷ h n .y ∷ h n .z ∷ [])
-
-abbrev pub putVector : List Float → ℕ → Vec3 → List Float
-putVector l i v = set (set (set l (3 * i) (v .x)) (3 * i + 1) (v .y)) (3 * i + 2) (v .z)
 
 -- an accepted call hands out its list, and one that arithmetic refuses +0.0, or 0, throughout
 unfoldable pub handedOut : Answer → ℕ → List Float → List Float

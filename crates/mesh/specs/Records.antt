@@ -1,28 +1,17 @@
--- Records in flat lists. A missing whole number counts as 0, and a missing float as a NaN. Definitions only.
+-- The records of a mesh in flat lists. A missing whole number counts as 0, and a missing float as a NaN. Definitions only.
 use mathlib.Core.List.{List}
 use mathlib.Core.Bool.{cond}
 use Prim.Native.Nat.{ℕ, _+_, _*_}
 use lib.Dec.{eqb}
 use lib.ListN.{getD}
 use lib.Ieee.{Float, nan}
-use Rattle.mesh.specs.Vector.{vec}
-use Rattle.mesh.specs.declared.Vec3.{Vec3}
+use Rattle.chain.specs.Pairs.{firstAt, secondAt}
+use Rattle.vector.specs.Vector.{vectorAt}
 use Rattle.mesh.specs.declared.Face.{Face}
 use Rattle.mesh.specs.declared.Cell.{Cell}
 use Rattle.mesh.specs.declared.Link.{Link}
 use Rattle.mesh.specs.declared.Condition.{Condition}
 use Rattle.mesh.specs.declared.Condition.the-variants.{Absent, Fixed, ZeroGradient}
-
--- the two numbers of record i of two: of a face its owner and its neighbour + 1, or its condition's code and its peer + 1; of a chain's record its item and the next record
-abbrev pub firstAt : List ℕ → ℕ → ℕ
-firstAt s i = getD s (2 * i) 0
-
-abbrev pub secondAt : List ℕ → ℕ → ℕ
-secondAt s i = getD s (2 * i + 1) 0
-
--- the three numbers from the place b on
-abbrev pub vectorAt : List Float → ℕ → Vec3
-vectorAt s b = vec (getD s b nan) (getD s (b + 1) nan) (getD s (b + 2) nan)
 
 -- a face's nine floats: centre, area vector, normal
 abbrev pub faceAt : List ℕ → List Float → ℕ → Face

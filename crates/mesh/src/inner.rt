@@ -2,43 +2,13 @@
 ghost use mathlib.Core.Path.{_≡_};
 ghost use Prim.Native.Nat.{_+_, _*_, _<_, _≤_};
 ghost use lib.ListN.{length};
-ghost use Rattle.mesh.specs.Pass.{putVector};
-ghost use Rattle.mesh.specs.Records.{firstAt, secondAt, vectorAt, faceAt, cellAt, conditionAt, linkAt};
+ghost use Rattle.mesh.specs.Records.{faceAt, cellAt, conditionAt, linkAt};
 use crate::Cell;
 use crate::Condition;
 use crate::Face;
 use crate::Link;
-use crate::Vec3;
 use crate::condition_of;
-
-// The two numbers of record i of two.
-pub fn first_of(s: &[usize], i: usize) -> usize
-    requires { ⌜ 2 * i + 1 < length (now s) ⌝ }
-    ensures { λ r. ⌜ r ≡ firstAt (now (s .entry)) i ⌝ }
-{
-    let b = 2 * i;
-    s[b]
-}
-
-pub fn second_of(s: &[usize], i: usize) -> usize
-    requires { ⌜ 2 * i + 1 < length (now s) ⌝ }
-    ensures { λ r. ⌜ r ≡ secondAt (now (s .entry)) i ⌝ }
-{
-    let b = 2 * i;
-    s[b + 1]
-}
-
-// The three numbers from the place b on.
-pub fn vector_at(s: &[f64], b: usize) -> Vec3
-    requires { ⌜ b + 2 < length (now s) ⌝ }
-    ensures { λ r. ⌜ r ≡ vectorAt (now (s .entry)) b ⌝ }
-{
-    Vec3 {
-        x: s[b],
-        y: s[b + 1],
-        z: s[b + 2],
-    }
-}
+use vector::inner::vector_at;
 
 pub fn face_at(adjacency: &[usize], geometry: &[f64], f: usize) -> Face
     requires { ⌜ (2 * f + 1 < length (now adjacency)) × (9 * f + 8 < length (now geometry)) ⌝ }
@@ -85,15 +55,4 @@ pub fn link_at(codes: &[usize], values: &[f64], f: usize) -> Link
         peer: codes[c + 1],
         translation: vector_at(values, v + 1),
     }
-}
-
-// Writes the vector i of a slice of three numbers each.
-pub fn put_vector(out: &mut [f64], i: usize, v: Vec3)
-    requires { ⌜ 3 * i + 2 < length (now out) ⌝ }
-    ensures { λ _. ⌜ now (out .exit) ≡ putVector (now (out .entry)) i v ⌝ }
-{
-    let b = 3 * i;
-    out[b] = v.x;
-    out[b + 1] = v.y;
-    out[b + 2] = v.z;
 }

@@ -1,30 +1,19 @@
-// What is lent: vectors, the records of a mesh and of its conditions, the checks 1 to 6 of what is
-// lent, and the clearing of outputs. Records stand in flat slices; `inner` reads them by value.
+// What is lent: the records of a mesh and of its conditions, the checks 1 to 6 of what is lent, and the
+// clearing of outputs. Records stand in flat slices; `inner` reads them by value.
 ghost use mathlib.Core.Path.{_≡_};
 ghost use Prim.Native.Nat.{_*_};
 ghost use lib.Dec.{eqb};
-ghost use lib.ListN.{length, getD, replicate};
+ghost use lib.ListN.{length, replicate};
 ghost use Rattle.binary64.specs.Numbers.{zero64};
 ghost use Rattle.mesh.specs.Answers.{at, orElse, shape};
-ghost use Rattle.mesh.specs.Records.{firstAt, secondAt, conditionOf};
+ghost use Rattle.mesh.specs.Records.{conditionOf};
 ghost use Rattle.mesh.specs.Checks.{sizesOk, lowestBadFace, lowestUnknownCode, NamesBadLink};
-ghost use Rattle.mesh.specs.Chains.{lowestBroken};
-ghost use Rattle.mesh.specs.Search.{lower};
 ghost use Rattle.mesh.specs.Mesh.{mesh, conditions, meshSized, conditionsSized, TopologyChecked, Checked};
-ghost use Rattle.mesh.specs.declared.chain.Form.the-variants.{Single, First, Second};
-use chain::Form;
+use chain::Found;
+use vector::Vec3;
 
-mod chain;
 pub mod inner;
 mod test;
-mod vector;
-
-// A record of three floats.
-pub struct Vec3 {
-    pub x: f64,
-    pub y: f64,
-    pub z: f64,
-}
 
 // A mesh's number, its dimension, and how many cells, faces, face records and neighbour records it
 // has.
@@ -71,12 +60,6 @@ pub enum Answer {
     Refused(u64, usize),
 }
 
-// What a search finds.
-pub enum Found {
-    Nothing,
-    At(usize),
-}
-
 // What a face or a cell is given: a number, or the number of a refusal.
 pub enum Outcome {
     Value(f64),
@@ -92,26 +75,6 @@ pub fn condition_of(code: usize, value: f64) -> Condition
         2 => Condition::ZeroGradient,
         _ => Condition::Absent,
     }
-}
-
-// The number at i, 0 where it is missing.
-pub fn number_at(s: &[usize], i: usize) -> usize
-    ensures { λ r. ⌜ r ≡ getD (now (s .entry)) i 0 ⌝ }
-{
-    if i < s.len() { s[i] } else { 0 }
-}
-
-// The two numbers of record i of two, each 0 where it is missing.
-pub fn first_at(s: &[usize], i: usize) -> usize
-    ensures { λ r. ⌜ r ≡ firstAt (now (s .entry)) i ⌝ }
-{
-    if i < (s.len() + 1) / 2 { s[2 * i] } else { 0 }
-}
-
-pub fn second_at(s: &[usize], i: usize) -> usize
-    ensures { λ r. ⌜ r ≡ secondAt (now (s .entry)) i ⌝ }
-{
-    if i < s.len() / 2 { s[2 * i + 1] } else { 0 }
 }
 
 // Check 1: the counts are those of a mesh.
@@ -163,19 +126,6 @@ pub fn conditions_sized(faces: usize, codes: &[usize], values: &[f64]) -> bool
     is_sized(codes.len(), 2, faces) & is_sized(values.len(), 4, faces)
 }
 
-// The lower of two places.
-pub fn lower_of(a: Found, b: Found) -> Found
-    ensures { λ r. ⌜ r ≡ lower a b ⌝ }
-{
-    match a {
-        Found::Nothing => b,
-        Found::At(i) => match b {
-            Found::Nothing => a,
-            Found::At(j) => { if j < i { b } else { a } }
-        },
-    }
-}
-
 // Check 4, of the cells that a face names: the lowest face that meets it.
 pub fn lowest_bad_face(cells: usize, adjacency: &[usize]) -> Found
     ensures { λ r. ⌜ r ≡ lowestBadFace cells (now (adjacency .entry)) ⌝ }
@@ -202,27 +152,6 @@ pub fn lowest_unknown_code(codes: &[usize]) -> Found
         f += 1;
     }
     Found::Nothing
-}
-
-// Check 5, of the chains of faces: the lowest cell whose chain is broken.
-pub fn lowest_broken_facing(faces: usize, heads: &[usize], facing: &[usize]) -> Found
-    ensures { λ r. ⌜ r ≡ lowestBroken faces (now (facing .entry)) First (now (heads .entry)) ⌝ }
-{
-    chain::lowest_broken(faces, facing, Form::First, heads)
-}
-
-// Check 5, of the chains of neighbours.
-pub fn lowest_broken_bordering(cells: usize, heads: &[usize], bordering: &[usize]) -> Found
-    ensures { λ r. ⌜ r ≡ lowestBroken cells (now (bordering .entry)) Second (now (heads .entry)) ⌝ }
-{
-    chain::lowest_broken(cells, bordering, Form::Second, heads)
-}
-
-// Check 5, of the chains of a stencil's equations, whose sources are below the number of cells + 2.
-pub fn lowest_broken_equation(sources: usize, starts: &[usize], equations: &[usize]) -> Found
-    ensures { λ r. ⌜ r ≡ lowestBroken sources (now (equations .entry)) Single (now (starts .entry)) ⌝ }
-{
-    chain::lowest_broken(sources, equations, Form::Single, starts)
 }
 
 // Check 6: a face with a link that meets it.
@@ -311,16 +240,16 @@ pub fn check_topology(
 ) -> Answer
     ensures { λ r. ⌜ TopologyChecked (mesh counts (now (adjacency .entry)) (now (geometry .entry)) (now (heads .entry)) (now (places .entry)) (now (facing .entry)) (now (bordering .entry))) (now (codes .entry)) r ⌝ }
 {
-    let face = lower_of(
+    let face = chain::lower_of(
         lowest_bad_face(counts.cells, adjacency),
         lowest_unknown_code(codes),
     );
     if let Found::At(f) = face {
         return Answer::Refused(4, f);
     }
-    let cell = lower_of(
-        lowest_broken_facing(counts.faces, heads, facing),
-        lowest_broken_bordering(counts.cells, heads, bordering),
+    let cell = chain::lower_of(
+        chain::lowest_broken_facing(counts.faces, heads, facing),
+        chain::lowest_broken_bordering(counts.cells, heads, bordering),
     );
     if let Found::At(c) = cell {
         return Answer::Refused(5, c);

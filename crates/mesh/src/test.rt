@@ -3,8 +3,8 @@ ghost use mathlib.Core.Path.{_≡_};
 ghost use Prim.Native.Nat.{_/_, _<_};
 ghost use lib.ListN.{length};
 ghost use Rattle.mesh.specs.Checks.{badFace, badLink};
-use crate::first_at;
-use crate::second_at;
+use chain::first_at;
+use chain::second_at;
 
 // Whether the owner or the neighbour names no cell, or the neighbour is the owner.
 pub(crate) fn is_bad(cells: usize, adjacency: &[usize], f: usize) -> bool

@@ -13,8 +13,8 @@ use Rattle.mesh.specs.Checks.{sizesOk, lowestBadFace}
 use Rattle.mesh.specs.Facts.{CellsOf}
 use Rattle.mesh.specs.declared.Answer.the-variants.{Accepted}
 use Rattle.mesh.specs.declared.Counts.{Counts}
-use Rattle.mesh.specs.declared.Found.the-variants.{Nothing}
-use Rattle.mesh.proofs.Truth.{and-true}
+use Rattle.chain.specs.declared.Found.the-variants.{Nothing}
+use Rattle.chain.proofs.Truth.{and-true}
 use Rattle.mesh.proofs.Facts.{both-accepted, passed, nothing-at, faces-in}
 use Rattle.numerics.specs.Outflow.{outflowChecks, Flows}
 

@@ -1,5 +1,4 @@
--- What the checks of an entry establish, and the laws of its sums. Laws of the work stand with its modules, below `inner`.
+-- What the checks of an entry establish, and the laws of its sums.
 pub mod Flows
-pub mod Good
 pub mod Scatter
 pub mod Slopes

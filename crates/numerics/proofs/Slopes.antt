@@ -10,14 +10,14 @@ use lib.Ieee.{Float}
 use borrow.Author.Tests.{eqb-true}
 use Rattle.mesh.specs.Answers.{pass, at, firstOf}
 use Rattle.mesh.specs.Checks.{sizesOk}
-use Rattle.mesh.specs.Chains.{lowestBroken, Chain}
+use Rattle.chain.specs.Chains.{lowestBroken, Chain}
 use Rattle.mesh.specs.declared.Answer.the-variants.{Accepted}
 use Rattle.mesh.specs.declared.Counts.{Counts}
-use Rattle.mesh.specs.declared.Found.the-variants.{Nothing}
-use Rattle.mesh.specs.declared.chain.Form.the-variants.{Single}
-use Rattle.mesh.proofs.Truth.{and-true, every-at}
+use Rattle.chain.specs.declared.Found.the-variants.{Nothing}
+use Rattle.chain.specs.declared.walk.Form.the-variants.{Single}
+use Rattle.chain.proofs.Truth.{and-true, every-at}
 use Rattle.mesh.proofs.Facts.{both-accepted, passed, nothing-at, chains-in}
-use Rattle.numerics.specs.Checks.{Slices, lengthsOf, stencilSizes, stencilSized}
+use Rattle.numerics.specs.Slices.{Slices, lengthsOf, stencilSizes, stencilSized}
 use Rattle.numerics.specs.Gradient.{lentChecks, gradientChecks, Sloped}
 
 -- by the sizes of a stencil of so many cells and records

@@ -9,15 +9,14 @@ use lib.Ieee.{Float, nan}
 use Rattle.binary64.specs.Numbers.{_⊖_}
 use Rattle.mesh.specs.Answers.{pass, at, firstOf}
 use Rattle.mesh.specs.Checks.{sizesOk}
-use Rattle.mesh.specs.Chains.{trail, lowestBroken, Chain}
-use Rattle.mesh.specs.Pass.{vectorsOf}
-use Rattle.mesh.specs.Records.{firstAt, vectorAt}
-use Rattle.mesh.specs.Vector.{vec, zero3, dot, sum, scaled}
+use Rattle.chain.specs.Chains.{trail, lowestBroken, Chain}
+use Rattle.vector.specs.Vector.{vectorsOf, vectorAt, vec, zero3, dot, sum, scaled}
+use Rattle.chain.specs.Pairs.{firstAt}
 use Rattle.mesh.specs.declared.Answer.{Answer}
 use Rattle.mesh.specs.declared.Counts.{Counts}
-use Rattle.mesh.specs.declared.Vec3.{Vec3}
-use Rattle.mesh.specs.declared.chain.Form.the-variants.{Single}
-use Rattle.numerics.specs.Checks.{Slices, lengthsOf, stencilSized}
+use Rattle.vector.specs.declared.Vec3.{Vec3}
+use Rattle.chain.specs.declared.walk.Form.the-variants.{Single}
+use Rattle.numerics.specs.Slices.{Slices, lengthsOf, stencilSized}
 
 -- the other value of an equation: the cell's own for a zero normal derivative, the fixed value, or a neighbour's
 unfoldable pub sourceValue : List Float → Float → ℕ → Float → Float

@@ -1,8 +1,3 @@
-pub mod Lent
-pub mod Ring
-pub mod Building
-pub mod Cell
-pub mod Stencil
-pub mod Checks
+pub mod Slices
 pub mod Gradient
 pub mod Outflow

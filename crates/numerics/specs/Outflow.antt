@@ -10,7 +10,7 @@ use Rattle.binary64.specs.Numbers.{zero64, _⊕_, _⊖_}
 use Rattle.mesh.specs.Answers.{pass, at, firstOf}
 use Rattle.mesh.specs.Checks.{sizesOk, lowestBadFace}
 use Rattle.mesh.specs.Facts.{CellsOf}
-use Rattle.mesh.specs.Records.{firstAt, secondAt}
+use Rattle.chain.specs.Pairs.{firstAt, secondAt}
 use Rattle.mesh.specs.declared.Answer.{Answer}
 use Rattle.mesh.specs.declared.Answer.the-variants.{Accepted}
 use Rattle.mesh.specs.declared.Counts.{Counts}

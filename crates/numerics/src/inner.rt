@@ -1,5 +1,3 @@
 // The work of the entries, for callers that have made the checks.
 pub mod gradient;
 pub mod outflow;
-pub mod ring;
-pub mod stencil;

@@ -7,7 +7,8 @@ use lib.Dec.{eqb}
 use lib.ListN.{getD}
 use lib.Ieee.{Float, nan}
 use Rattle.mesh.specs.Pass.{valueOf}
-use Rattle.mesh.specs.Records.{secondAt, faceAt, cellAt}
+use Rattle.chain.specs.Pairs.{secondAt}
+use Rattle.mesh.specs.Records.{faceAt, cellAt}
 use Rattle.mesh.specs.declared.Cell.{Cell}
 use Rattle.mesh.specs.declared.Face.{Face}
 use Rattle.mesh.specs.declared.Outcome.{Outcome}

@@ -3,7 +3,8 @@ use mathlib.Core.Path.{_≡_, sym, subst}
 use Prim.Native.Nat.{ℕ, _+_, _-_, _*_, _<_, _≤_}
 use native.Mathlib.Omega.{arith}
 use lib.ListN.{length}
-use Rattle.mesh.specs.Records.{firstAt, secondAt, faceAt, linkAt}
+use Rattle.chain.specs.Pairs.{firstAt, secondAt}
+use Rattle.mesh.specs.Records.{faceAt, linkAt}
 use Rattle.mesh.specs.declared.Face.{Face}
 use Rattle.mesh.specs.declared.Link.{Link}
 use Rattle.predictor.specs.Boundary.{Bounds, Bounded}

@@ -11,15 +11,16 @@ use Rattle.mesh.specs.Answers.{at, orElse, shape}
 use Rattle.mesh.specs.Checks.{sizesOk, lowestBadFace, lowestUnknownCode, NamesBadLink}
 use Rattle.mesh.specs.Mesh.{Conditions, conditionsSized}
 use Rattle.mesh.specs.Pass.{valuesOf, handedOut, unless}
-use Rattle.mesh.specs.Records.{secondAt, conditionAt, linkAt}
-use Rattle.mesh.specs.Search.{lower}
-use Rattle.mesh.specs.Vector.{difference}
+use Rattle.chain.specs.Pairs.{secondAt}
+use Rattle.mesh.specs.Records.{conditionAt, linkAt}
+use Rattle.chain.specs.Search.{lower}
+use Rattle.vector.specs.Vector.{difference}
 use Rattle.mesh.specs.declared.Answer.{Answer}
 use Rattle.mesh.specs.declared.Answer.the-variants.{Accepted}
 use Rattle.mesh.specs.declared.Condition.{Condition}
 use Rattle.mesh.specs.declared.Condition.the-variants.{Absent, Fixed, ZeroGradient}
 use Rattle.mesh.specs.declared.Counts.{Counts}
-use Rattle.mesh.specs.declared.Found.{Found}
+use Rattle.chain.specs.declared.Found.{Found}
 use Rattle.mesh.specs.declared.Outcome.{Outcome}
 use Rattle.mesh.specs.declared.Outcome.the-variants.{Value}
 use Rattle.coupling.specs.Face.{linkedCoefficient, fixedCoefficient}

@@ -7,17 +7,17 @@ use lib.Dec.{eqb, leb}
 use lib.ListN.{length, getD}
 use lib.Ieee.{Float, nan}
 use Rattle.mesh.specs.Answers.{at, orElse, shape}
-use Rattle.mesh.specs.Chains.{lowestBroken}
+use Rattle.chain.specs.Chains.{lowestBroken}
 use Rattle.mesh.specs.Checks.{sizesOk, lowestBadFace}
 use Rattle.mesh.specs.Pass.{valueOf, valuesOf, handedOut, unless}
-use Rattle.mesh.specs.Records.{vectorAt}
-use Rattle.mesh.specs.Search.{everyOf}
+use Rattle.vector.specs.Vector.{vectorAt}
+use Rattle.chain.specs.Search.{everyOf}
 use Rattle.mesh.specs.declared.Answer.{Answer}
 use Rattle.mesh.specs.declared.Counts.{Counts}
 use Rattle.mesh.specs.declared.Outcome.{Outcome}
 use Rattle.mesh.specs.declared.Outcome.the-variants.{Value}
-use Rattle.mesh.specs.declared.chain.Form.the-variants.{Single}
-use Rattle.numerics.specs.Checks.{Slices, lengthsOf, stencilSized}
+use Rattle.chain.specs.declared.walk.Form.the-variants.{Single}
+use Rattle.numerics.specs.Slices.{Slices, lengthsOf, stencilSized}
 use Rattle.numerics.specs.Gradient.{gradients, Sloped}
 use Rattle.coupling.specs.Face.{distances, side, predictedFlux}
 use Rattle.coupling.specs.declared.Side.{Side}

@@ -10,8 +10,8 @@ use Rattle.mesh.specs.Pass.{unless}
 use Rattle.mesh.specs.declared.Answer.{Answer}
 use Rattle.mesh.specs.declared.Answer.the-variants.{Accepted, Refused}
 use Rattle.mesh.specs.declared.Counts.{Counts}
-use Rattle.mesh.specs.declared.Vec3.{Vec3}
-use Rattle.numerics.specs.Checks.{Slices}
+use Rattle.vector.specs.declared.Vec3.{Vec3}
+use Rattle.numerics.specs.Slices.{Slices}
 use Rattle.numerics.specs.Gradient.{gradientAt, gradients, gradientChecks, Sloped}
 use Rattle.numerics.proofs.Slopes.{slopes}
 use Rattle.records.specs.Records.{vectors, recordsOf}

@@ -4,9 +4,8 @@ use mathlib.Core.List.{List, [], _∷_, _++_, append-assoc, append-nil}
 use Prim.Native.Nat.{ℕ, zero, suc, _+_, _*_}
 use native.Mathlib.Omega.{arith}
 use lib.Ieee.{Float}
-use Rattle.mesh.specs.Pass.{vectorsOf}
-use Rattle.mesh.specs.Records.{vectorAt}
-use Rattle.mesh.specs.declared.Vec3.{Vec3}
+use Rattle.vector.specs.Vector.{vectorsOf, vectorAt}
+use Rattle.vector.specs.declared.Vec3.{Vec3}
 use Rattle.records.specs.Records.{vectors, recordsOf, Numbered, Regrouped}
 
 append-vectors : (h : ℕ → Vec3) (n : ℕ) (l : List Float) → vectors (vectorsOf h n ++ l) ≡ recordsOf h n ++ vectors l

@@ -4,10 +4,8 @@ use mathlib.Core.List.{List, [], _∷_, _++_}
 use Prim.Native.Nat.{ℕ, zero, suc, _+_, _*_, _<_}
 use lib.ListN.{length, getD}
 use lib.Ieee.{Float}
-use Rattle.mesh.specs.Pass.{vectorsOf}
-use Rattle.mesh.specs.Records.{vectorAt}
-use Rattle.mesh.specs.Vector.{vec, zero3}
-use Rattle.mesh.specs.declared.Vec3.{Vec3}
+use Rattle.vector.specs.Vector.{vectorsOf, vectorAt, vec, zero3}
+use Rattle.vector.specs.declared.Vec3.{Vec3}
 
 -- the numbers of a list three at a time, each three a vector
 unfoldable pub vectors : List Float → List Vec3

@@ -3,12 +3,12 @@ ghost use mathlib.Core.Path.{_≡_};
 ghost use Prim.Native.Nat.{_*_};
 ghost use lib.ListN.{length};
 ghost use Rattle.mesh.specs.Pass.{unless};
-ghost use Rattle.numerics.specs.Checks.{slices};
+ghost use Rattle.numerics.specs.Slices.{slices};
 ghost use Rattle.numerics.specs.Gradient.{gradients, gradientChecks};
 ghost use Rattle.records.specs.Records.{vectors};
 use mesh::Answer;
 use mesh::Counts;
-use mesh::Vec3;
+use vector::Vec3;
 
 // The checks of the number form; `outs` is how many records the output has.
 fn check(

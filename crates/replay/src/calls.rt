@@ -8,11 +8,11 @@ use crate::verdict::Verdict;
 use crate::verdict::verdict_at;
 use mesh::Answer;
 
+mod equations;
 mod of_numerics;
 mod of_records;
 mod of_simple;
 mod of_step;
-mod stencil;
 
 pub enum Outcome {
     Agrees,
@@ -94,7 +94,7 @@ fn outputs(kind: usize) -> usize {
 fn agrees(words: &[usize], floats: &[f64], c: Call, v: Verdict) -> bool {
     let kind = c.kind;
     match kind {
-        17 => stencil::agrees(words, floats, c, v),
+        17 => equations::agrees(words, floats, c, v),
         18 => one_agrees(words, floats, c, v) && of_records::agrees(words, floats, c, v),
         21 | 25 => two_agree(words, floats, c, v),
         26 => of_step::agrees(words, floats, c, v),

@@ -11,16 +11,16 @@ use lib.Ieee.Scale.{finite}
 use borrow.Author.Tests.{not-false}
 use Rattle.binary64.specs.Numbers.{isFinite}
 use Rattle.mesh.specs.Answers.{orElse, firstOf}
-use Rattle.mesh.specs.Search.{lowestWhere}
+use Rattle.chain.specs.Search.{lowestWhere}
 use Rattle.mesh.specs.declared.Answer.the-variants.{Accepted}
-use Rattle.mesh.specs.declared.Found.{Found}
-use Rattle.mesh.specs.declared.Found.the-variants.{Nothing, At}
+use Rattle.chain.specs.declared.Found.{Found}
+use Rattle.chain.specs.declared.Found.the-variants.{Nothing, At}
 use Rattle.mesh.proofs.Facts.{both-accepted}
-use Rattle.mesh.proofs.Search.{none-below}
+use Rattle.chain.proofs.Search.{none-below}
 use Rattle.mesh.proofs.Values.{value-at}
-use Rattle.numerics.specs.Checks.{lentOf}
+use Rattle.stencil.specs.Checks.{lentOf}
 use Rattle.numerics.specs.Outflow.{facesOf}
-use Rattle.numerics.specs.Stencil.{stencilAnswer}
+use Rattle.stencil.specs.Stencil.{stencilAnswer}
 use Rattle.balance.proofs.Closes.{balances}
 use Rattle.balance.specs.Balance.{Balanced}
 use Rattle.predictor.specs.Boundary.{boundsOf, boundaryAnswer}

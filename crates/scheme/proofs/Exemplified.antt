@@ -4,7 +4,7 @@ use lib.Dec.{lit≤}
 use lib.Ieee.{ofBits, add, sub, mul, div, neg, le, lt}
 use Rattle.binary64.specs.Root.{rootIn}
 use Rattle.binary64.specs.Units.{exactTotal, units, count, totalCount}
-use Rattle.mesh.specs.Vector.{dot, difference}
+use Rattle.vector.specs.Vector.{dot, difference}
 use Rattle.coupling.specs.Face.{distances, faceResponse, projected, positive, internalCoefficient, correctedFlux}
 use Rattle.numerics.specs.Outflow.{outflows, scatter, scatterFace, upTo, given}
 use Rattle.corrector.specs.Correction.{wallFlux}

@@ -7,18 +7,19 @@ use lib.ListN.{length, getD}
 use lib.Ieee.{Float, nan}
 use Rattle.mesh.specs.Answers.{orElse, firstOf}
 use Rattle.mesh.specs.Pass.{valueOf}
-use Rattle.mesh.specs.Records.{secondAt}
+use Rattle.chain.specs.Pairs.{secondAt}
 use Rattle.mesh.specs.declared.Answer.{Answer}
 use Rattle.mesh.specs.declared.Answer.the-variants.{Accepted, Refused}
 use Rattle.mesh.proofs.Facts.{both-accepted, peer-below}
 use Rattle.mesh.proofs.Values.{length-listOf, getD-listOf}
-use Rattle.numerics.specs.Checks.{slices, lentOf}
+use Rattle.numerics.specs.Slices.{slices}
+use Rattle.stencil.specs.Checks.{lentOf}
 use Rattle.numerics.specs.Gradient.{Sloped, gradients}
-use Rattle.numerics.specs.Lent.{Lent, Good}
+use Rattle.stencil.specs.Lent.{Lent, Good}
 use Rattle.numerics.specs.Outflow.{Flows, outflows}
-use Rattle.numerics.specs.Stencil.{stencilAnswer, stencilStarts, stencilEquations}
-use Rattle.numerics.proofs.Good.{lent-good}
-use Rattle.numerics.proofs.inner.stencil.Sound.{accepted-sound}
+use Rattle.stencil.specs.Stencil.{stencilAnswer, stencilStarts, stencilEquations}
+use Rattle.stencil.proofs.Good.{lent-good}
+use Rattle.stencil.proofs.inner.build.Sound.{accepted-sound}
 use Rattle.predictor.specs.Boundary.{Bounded, Begun, boundsOf, boundaryAnswer, boundaryCoefficients, coefficientAt}
 use Rattle.corrector.specs.Correction.{Correcting, correcting, Correctable, correctedFluxAt, correctionAnswer, correctedFluxes}
 use Rattle.predictor.specs.Coefficients.{coefficientAnswer, coefficients}

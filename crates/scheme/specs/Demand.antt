@@ -12,7 +12,7 @@ use lib.Dec.{T}
 use lib.ListN.{length, getD}
 use lib.Ieee.{Float, nan}
 use lib.Ieee.Scale.{finite}
-use Rattle.mesh.specs.Records.{firstAt, secondAt}
+use Rattle.chain.specs.Pairs.{firstAt, secondAt}
 use Rattle.mesh.specs.declared.Answer.{Answer}
 use Rattle.mesh.specs.declared.Answer.the-variants.{Accepted}
 use Rattle.numerics.specs.Outflow.{facesOf}

@@ -6,10 +6,10 @@ use lib.IntN.{pos, natAbs, _-ℤ_}
 use lib.Ieee.{Float, binary64, ofBits}
 use Rattle.binary64.specs.Root.{root}
 use Rattle.binary64.specs.Units.{exactTotal}
-use Rattle.mesh.specs.Vector.{vec}
+use Rattle.vector.specs.Vector.{vec}
 use Rattle.mesh.specs.declared.Condition.the-variants.{Fixed, ZeroGradient}
 use Rattle.mesh.specs.declared.Outcome.the-variants.{Value, Bad}
-use Rattle.mesh.specs.declared.Vec3.{Vec3}
+use Rattle.vector.specs.declared.Vec3.{Vec3}
 use Rattle.coupling.specs.Face.{pair, distances, internalCoefficient, correctedFlux}
 use Rattle.coupling.specs.declared.Span.{Span}
 use Rattle.numerics.specs.Outflow.{facesOf, terms, outflows}

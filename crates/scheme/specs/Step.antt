@@ -8,15 +8,16 @@ use lib.Ieee.{Float, nan}
 use Rattle.binary64.specs.Numbers.{isFinite}
 use Rattle.mesh.specs.Answers.{firstOf}
 use Rattle.mesh.specs.Mesh.{Mesh, Conditions, conditions, Good}
-use Rattle.mesh.specs.Search.{lowestWhere}
+use Rattle.chain.specs.Search.{lowestWhere}
 use Rattle.mesh.specs.declared.Answer.{Answer}
 use Rattle.mesh.specs.declared.Answer.the-variants.{Accepted, Refused}
-use Rattle.mesh.specs.declared.Found.{Found}
-use Rattle.mesh.specs.declared.Found.the-variants.{Nothing, At}
-use Rattle.numerics.specs.Checks.{Slices, slices, lentOf}
+use Rattle.chain.specs.declared.Found.{Found}
+use Rattle.chain.specs.declared.Found.the-variants.{Nothing, At}
+use Rattle.numerics.specs.Slices.{Slices, slices}
+use Rattle.stencil.specs.Checks.{lentOf}
 use Rattle.numerics.specs.Gradient.{gradients}
 use Rattle.numerics.specs.Outflow.{outflows}
-use Rattle.numerics.specs.Stencil.{stencilAnswer, stencilStarts, stencilEquations, stencilWeights, stencilInverses}
+use Rattle.stencil.specs.Stencil.{stencilAnswer, stencilStarts, stencilEquations, stencilWeights, stencilInverses}
 use Rattle.predictor.specs.Boundary.{boundsOf, boundaryAnswer, boundaryCoefficients}
 use Rattle.corrector.specs.Correction.{Correcting, correcting, correctionAnswer, correctedFluxes}
 use Rattle.coupling.specs.Grid.{Grid, grid, Field, field}

@@ -9,21 +9,21 @@ use lib.ListN.{length}
 use lib.Ieee.{Float}
 use borrow.Author.Tests.{eqb-true}
 use Rattle.mesh.specs.Answers.{at, orElse, shape}
-use Rattle.mesh.specs.Chains.{lowestBroken}
+use Rattle.chain.specs.Chains.{lowestBroken}
 use Rattle.mesh.specs.Checks.{sizesOk, lowestBadFace, lowestUnknownCode, NamesBadLink}
 use Rattle.mesh.specs.Facts.{FacesIn, LinksIn}
 use Rattle.mesh.specs.Mesh.{Conditions, conditionsSized}
-use Rattle.mesh.specs.Search.{lower, everyOf}
+use Rattle.chain.specs.Search.{lower, everyOf}
 use Rattle.mesh.specs.declared.Answer.{Answer}
 use Rattle.mesh.specs.declared.Answer.the-variants.{Accepted}
 use Rattle.mesh.specs.declared.Counts.{Counts}
-use Rattle.mesh.specs.declared.Found.{Found}
-use Rattle.mesh.specs.declared.Found.the-variants.{Nothing}
-use Rattle.mesh.specs.declared.chain.Form.the-variants.{Single}
+use Rattle.chain.specs.declared.Found.{Found}
+use Rattle.chain.specs.declared.Found.the-variants.{Nothing}
+use Rattle.chain.specs.declared.walk.Form.the-variants.{Single}
 use Rattle.mesh.proofs.Facts.{both-accepted, nothing-at, shape-accepted, small, faces-in, links-in, peer-below}
-use Rattle.mesh.proofs.Search.{none-lower}
-use Rattle.mesh.proofs.Truth.{and-true, every-at}
-use Rattle.numerics.specs.Checks.{Slices, lengthsOf, stencilSized}
+use Rattle.chain.proofs.Search.{none-lower}
+use Rattle.chain.proofs.Truth.{and-true, every-at}
+use Rattle.numerics.specs.Slices.{Slices, lengthsOf, stencilSized}
 use Rattle.numerics.specs.Gradient.{Sloped}
 use Rattle.numerics.specs.Outflow.{Flows}
 use Rattle.numerics.proofs.Flows.{flows-by}

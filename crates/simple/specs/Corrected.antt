@@ -10,11 +10,11 @@ use Rattle.mesh.specs.Answers.{orElse, shape}
 use Rattle.mesh.specs.Checks.{sizesOk, NamesBadLink}
 use Rattle.mesh.specs.Mesh.{Conditions, conditionsSized}
 use Rattle.mesh.specs.Pass.{handedOut, unless}
-use Rattle.mesh.specs.Search.{everyOf}
+use Rattle.chain.specs.Search.{everyOf}
 use Rattle.mesh.specs.declared.Answer.{Answer}
 use Rattle.mesh.specs.declared.Answer.the-variants.{Accepted}
 use Rattle.mesh.specs.declared.Counts.{Counts}
-use Rattle.mesh.specs.declared.Found.{Found}
+use Rattle.chain.specs.declared.Found.{Found}
 use Rattle.predictor.specs.Boundary.{links}
 use Rattle.corrector.specs.Correction.{Correcting, correcting, correctionAnswer, correctedFluxes}
 use Rattle.coupling.specs.Grid.{Field}

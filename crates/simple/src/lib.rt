@@ -5,12 +5,12 @@ ghost use mathlib.Core.Path.{_≡_};
 ghost use lib.ListN.{length};
 ghost use Prim.Native.Nat.{_+_, _≤_};
 ghost use Rattle.mesh.specs.Answers.{at, orElse};
-ghost use Rattle.mesh.specs.Chains.{lowestBroken};
+ghost use Rattle.chain.specs.Chains.{lowestBroken};
 ghost use Rattle.mesh.specs.Checks.{lowestBadFace};
 ghost use Rattle.mesh.specs.Mesh.{conditions};
 ghost use Rattle.mesh.specs.Pass.{handedOut, unless};
-ghost use Rattle.mesh.specs.declared.chain.Form.the-variants.{Single};
-ghost use Rattle.numerics.specs.Checks.{slices};
+ghost use Rattle.chain.specs.declared.walk.Form.the-variants.{Single};
+ghost use Rattle.numerics.specs.Slices.{slices};
 ghost use Rattle.predictor.specs.Boundary.{LinksChecked, BoundaryChecked, BoundaryCall};
 ghost use Rattle.predictor.specs.Coefficients.{coefficientChecks, coefficientAnswer, coefficients};
 ghost use Rattle.simple.specs.Corrected.{fields, CorrectionChecked, CorrectionCall, Promised};
@@ -113,7 +113,7 @@ pub fn pressure_face_coefficients(
 fn check_links(cells: usize, adjacency: &[usize], codes: &[usize]) -> Answer
     ensures { λ r. ⌜ LinksChecked cells (now (adjacency .entry)) (now (codes .entry)) r ⌝ }
 {
-    let face = mesh::lower_of(
+    let face = chain::lower_of(
         mesh::lowest_bad_face(cells, adjacency),
         mesh::lowest_unknown_code(codes),
     );
@@ -219,7 +219,7 @@ fn check_chains(cells: usize, adjacency: &[usize], starts: &[usize], equations: 
     let face = mesh::at(4, mesh::lowest_bad_face(cells, adjacency));
     let cell = mesh::at(
         5,
-        mesh::lowest_broken_equation(cells + 2, starts, equations),
+        chain::lowest_broken_equation(cells + 2, starts, equations),
     );
     mesh::or_else(face, cell)
 }

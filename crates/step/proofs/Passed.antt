@@ -8,13 +8,13 @@ use borrow.Author.Tests.{eqb-true, leb-true}
 use Rattle.mesh.specs.Answers.{orElse, shape}
 use Rattle.mesh.specs.Checks.{sizesOk}
 use Rattle.mesh.specs.Mesh.{meshSized, conditionsSized, topology}
-use Rattle.mesh.specs.Search.{everyOf}
+use Rattle.chain.specs.Search.{everyOf}
 use Rattle.mesh.specs.declared.Answer.{Answer}
 use Rattle.mesh.specs.declared.Answer.the-variants.{Accepted, Refused}
 use Rattle.mesh.proofs.Facts.{both-accepted, shape-accepted, small}
 use Rattle.mesh.proofs.Good.{sized, sound}
-use Rattle.mesh.proofs.Truth.{and-true, every-at}
-use Rattle.numerics.specs.Checks.{lengths, stencilSizes, stencilSized}
+use Rattle.chain.proofs.Truth.{and-true, every-at}
+use Rattle.numerics.specs.Slices.{lengths, stencilSizes, stencilSized}
 use Rattle.step.specs.Call.{Handed, fieldSizes, fieldsSized, outputSizes, outputsSized, fieldNumbers, stepSized, stepChecks, StepChecked, OutputsFit}
 use Rattle.scheme.specs.Step.{Given, alike, workAnswer, Lendable}
 

@@ -11,12 +11,12 @@ use Rattle.mesh.specs.Answers.{orElse, shape}
 use Rattle.mesh.specs.Checks.{sizesOk, NamesBadLink}
 use Rattle.mesh.specs.Mesh.{meshSized, conditionsSized, topology}
 use Rattle.mesh.specs.Pass.{unless}
-use Rattle.mesh.specs.Search.{everyOf}
+use Rattle.chain.specs.Search.{everyOf}
 use Rattle.mesh.specs.declared.Answer.{Answer}
 use Rattle.mesh.specs.declared.Answer.the-variants.{Accepted}
 use Rattle.mesh.specs.declared.Counts.{Counts}
-use Rattle.mesh.specs.declared.Found.{Found}
-use Rattle.numerics.specs.Checks.{lengths, stencilSized}
+use Rattle.chain.specs.declared.Found.{Found}
+use Rattle.numerics.specs.Slices.{lengths, stencilSized}
 use Rattle.corrector.specs.Metrics.{metricsOf, metricsNumbers}
 use Rattle.scheme.specs.Step.{Given, stencilOf, gradientOf, predictedOf, coefficientsOf, fluxesOf, outflowsOf, workAnswer}
 

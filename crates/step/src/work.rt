@@ -5,11 +5,11 @@ ghost use lib.ListN.{length};
 ghost use Rattle.mesh.specs.Answers.{orElse};
 ghost use Rattle.mesh.specs.Mesh.{mesh};
 ghost use Rattle.mesh.specs.Pass.{unless};
-ghost use Rattle.numerics.specs.Checks.{slices};
+ghost use Rattle.numerics.specs.Slices.{slices};
 ghost use Rattle.numerics.specs.Gradient.{gradients};
-ghost use Rattle.numerics.specs.Lent.{lent, Good};
+ghost use Rattle.stencil.specs.Lent.{lent, Good};
 ghost use Rattle.numerics.specs.Outflow.{Flows, outflows};
-ghost use Rattle.numerics.specs.Stencil.{stencilAnswer, stencilStarts, stencilEquations, stencilWeights, stencilInverses};
+ghost use Rattle.stencil.specs.Stencil.{stencilAnswer, stencilStarts, stencilEquations, stencilWeights, stencilInverses};
 ghost use Rattle.predictor.specs.Boundary.{bounds, Bounded, Begun, boundaryAnswer, boundaryCoefficients};
 ghost use Rattle.corrector.specs.Correction.{correcting, Correctable, correctionAnswer, correctedFluxes};
 ghost use Rattle.coupling.specs.Grid.{grid, Coupled};
@@ -139,7 +139,7 @@ fn predict(
     ensures { λ r. ⌜ IfAccepted r ((now (gradient .exit) ≡ gradients (slices (stencilStarts (lent counts (now (adjacency .entry)) (now (geometry .entry)) (now (heads .entry)) (now (places .entry)) (now (facing .entry)) (now (bordering .entry)) (now (codes .entry)) (now (values .entry))) records) (stencilEquations (lent counts (now (adjacency .entry)) (now (geometry .entry)) (now (heads .entry)) (now (places .entry)) (now (facing .entry)) (now (bordering .entry)) (now (codes .entry)) (now (values .entry))) records) (stencilWeights (lent counts (now (adjacency .entry)) (now (geometry .entry)) (now (heads .entry)) (now (places .entry)) (now (facing .entry)) (now (bordering .entry)) (now (codes .entry)) (now (values .entry))) records) (stencilInverses (lent counts (now (adjacency .entry)) (now (geometry .entry)) (now (heads .entry)) (now (places .entry)) (now (facing .entry)) (now (bordering .entry)) (now (codes .entry)) (now (values .entry))) records)) records (now (pressures .entry)) (length (now (pressures .entry)))) × (now (predicted .exit) ≡ predictedFluxes (grid (now (adjacency .entry)) (now (geometry .entry)) (now (places .entry))) (flow (now (velocities .entry)) (now (pressures .entry)) (gradients (slices (stencilStarts (lent counts (now (adjacency .entry)) (now (geometry .entry)) (now (heads .entry)) (now (places .entry)) (now (facing .entry)) (now (bordering .entry)) (now (codes .entry)) (now (values .entry))) records) (stencilEquations (lent counts (now (adjacency .entry)) (now (geometry .entry)) (now (heads .entry)) (now (places .entry)) (now (facing .entry)) (now (bordering .entry)) (now (codes .entry)) (now (values .entry))) records) (stencilWeights (lent counts (now (adjacency .entry)) (now (geometry .entry)) (now (heads .entry)) (now (places .entry)) (now (facing .entry)) (now (bordering .entry)) (now (codes .entry)) (now (values .entry))) records) (stencilInverses (lent counts (now (adjacency .entry)) (now (geometry .entry)) (now (heads .entry)) (now (places .entry)) (now (facing .entry)) (now (bordering .entry)) (now (codes .entry)) (now (values .entry))) records)) records (now (pressures .entry)) (length (now (pressures .entry)))) (now (responses .entry))) (now (walls .entry)))) ⌝ }
     ensures { λ r. ⌜ IfAccepted r (Begun (grid (now (adjacency .entry)) (now (geometry .entry)) (now (places .entry))) (now (responses .entry)) (now (coefficients .exit))) ⌝ }
 {
-    let a = numerics::inner::stencil::least_squares_stencil(
+    let a = stencil::inner::build::least_squares_stencil(
         counts,
         adjacency,
         geometry,

@@ -35,16 +35,16 @@ fn flux_at(
     requires { ⌜ f < length (now predicted) ⌝ }
     ensures { λ r. ⌜ r ≡ correctedFluxAt (correcting (now (adjacency .entry)) (now (codes .entry)) (now (values .entry)) (now (predicted .entry)) (now (coefficients .entry)) (now (correction .entry))) f ⌝ }
 {
-    let o = mesh::inner::first_of(adjacency, f);
+    let o = chain::inner::first_of(adjacency, f);
     let own = correction[o];
-    let neighbour = mesh::inner::second_of(adjacency, f);
+    let neighbour = chain::inner::second_of(adjacency, f);
     if neighbour != 0 {
         let other = correction[neighbour - 1];
         return coupling::corrected_flux(predicted[f], coefficients[f], other, own);
     }
-    let peer = mesh::inner::second_of(codes, f);
+    let peer = chain::inner::second_of(codes, f);
     if peer != 0 {
-        let n = mesh::inner::first_of(adjacency, peer - 1);
+        let n = chain::inner::first_of(adjacency, peer - 1);
         return coupling::corrected_flux(predicted[f], coefficients[f], correction[n], own);
     }
     let condition = mesh::inner::condition_at(codes, values, f);

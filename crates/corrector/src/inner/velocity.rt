@@ -3,13 +3,13 @@ ghost use mathlib.Core.Path.{_≡_};
 ghost use Prim.Native.Nat.{_+_, _*_, _<_};
 ghost use lib.ListN.{length};
 ghost use Rattle.mesh.specs.Pass.{handedOut};
-ghost use Rattle.mesh.specs.Search.{lowestWhere};
-ghost use Rattle.mesh.specs.declared.Found.the-variants.{Nothing};
+ghost use Rattle.chain.specs.Search.{lowestWhere};
+ghost use Rattle.chain.specs.declared.Found.the-variants.{Nothing};
 ghost use Rattle.corrector.specs.Velocity.{correctedAt, failsAt, velocityAnswer, correctedVelocities};
+use chain::Found;
 use mesh::Answer;
-use mesh::Found;
-use mesh::Vec3;
 use passes::settle;
+use vector::Vec3;
 
 // The corrected velocity of the cell c.
 fn corrected_at(velocity: &[f64], responses: &[f64], gradient: &[f64], c: usize) -> Vec3
@@ -18,9 +18,9 @@ fn corrected_at(velocity: &[f64], responses: &[f64], gradient: &[f64], c: usize)
 {
     let b = 3 * c;
     coupling::corrected_velocity(
-        mesh::inner::vector_at(velocity, b),
+        vector::inner::vector_at(velocity, b),
         responses[c],
-        mesh::inner::vector_at(gradient, b),
+        vector::inner::vector_at(gradient, b),
     )
 }
 
@@ -36,7 +36,7 @@ fn correct(velocity: &[f64], responses: &[f64], gradient: &[f64], out: &mut [f64
         if !coupling::stands(responses[c], v) {
             return Found::At(c);
         }
-        mesh::inner::put_vector(out, c, v);
+        vector::inner::put_vector(out, c, v);
         c += 1;
     }
     Found::Nothing

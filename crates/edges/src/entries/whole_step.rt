@@ -1,6 +1,7 @@
 // `step::step`: 1 to 10 and 12, and 1 within arithmetic.
 use crate::entries::NEAR;
 use crate::entries::change;
+use crate::entries::equations;
 use crate::entries::output;
 use crate::entries::output::FILL;
 use crate::entries::output::ROOM;
@@ -26,7 +27,6 @@ use crate::entries::slice::float;
 use crate::entries::slice::float_part;
 use crate::entries::slice::part;
 use crate::entries::slice::whole;
-use crate::entries::stencil;
 use crate::print_answer;
 use mesh::Answer;
 use mesh::Counts;
@@ -85,11 +85,11 @@ fn tell(
     let e = part(equations, 0, i);
     let w = float_part(weights, 0, j);
     if print_answer(answer) {
-        stencil::print(starts, e, w, inverses);
+        equations::print(starts, e, w, inverses);
         print_fields(gradient, predicted, coefficients, flux, outflow, metrics);
     } else {
         output::print_left(
-            stencil::left(starts, e, w, inverses)
+            equations::left(starts, e, w, inverses)
                 & left(gradient, predicted, coefficients, flux, outflow, metrics),
         );
     }

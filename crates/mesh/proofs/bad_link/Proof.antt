@@ -4,9 +4,9 @@ use Prim.Native.Nat.{_-_, _/_}
 use native.Mathlib.Omega.{arith}
 use lib.ListN.{length}
 use denote.Ref.{now}
-use Rattle.mesh.specs.Search.{Names}
+use Rattle.chain.specs.Search.{Names}
 use Rattle.mesh.specs.Checks.{badLink}
-use Rattle.mesh.proofs.Search.{Searched, start, more, found, nothing}
+use Rattle.chain.proofs.Search.{Searched, start, more, found, nothing}
 use Rattle.mesh.proofs.bad_link.Statement.{statement}
 use Rattle.mesh.proofs.bad_link.Tie as tie
 

@@ -6,10 +6,10 @@ use lib.ListN.{length}
 use denote.Ref.{now}
 use borrow.Author.Tests.{eq-eqb, ne-eqb, not-true, not-false}
 use Rattle.mesh.specs.Answers.{pass, orElse, firstOf}
-use Rattle.mesh.specs.Search.{lowestWhere}
+use Rattle.chain.specs.Search.{lowestWhere}
 use Rattle.mesh.specs.Checks.{badLink}
 use Rattle.mesh.specs.Mesh.{mesh, topology, checks}
-use Rattle.mesh.proofs.Search.{names-lowest}
+use Rattle.chain.proofs.Search.{names-lowest}
 use Rattle.mesh.proofs.Facts.{or-accepted}
 use borrow.Author.Needs.{needs}
 use Rattle.mesh.proofs.check.Statement.{statement}

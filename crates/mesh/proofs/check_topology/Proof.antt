@@ -4,13 +4,13 @@ use Prim.Native.Nat.{_/_}
 use lib.ListN.{length}
 use denote.Ref.{now}
 use Rattle.mesh.specs.Answers.{at, orElse, firstOf}
-use Rattle.mesh.specs.Search.{lowestWhere, lower}
-use Rattle.mesh.specs.Chains.{lowestBroken}
-use Rattle.mesh.specs.declared.chain.Form.the-variants.{First, Second}
+use Rattle.chain.specs.Search.{lowestWhere, lower}
+use Rattle.chain.specs.Chains.{lowestBroken}
+use Rattle.chain.specs.declared.walk.Form.the-variants.{First, Second}
 use Rattle.mesh.specs.Checks.{badLink, lowestBadFace, lowestUnknownCode}
 use Rattle.mesh.specs.Mesh.{topology}
-use Rattle.mesh.specs.declared.Found.the-variants.{At, Nothing}
-use Rattle.mesh.proofs.Search.{names-lowest}
+use Rattle.chain.specs.declared.Found.the-variants.{At, Nothing}
+use Rattle.chain.proofs.Search.{names-lowest}
 use borrow.Author.Needs.{needs}
 use Rattle.mesh.proofs.check_topology.Statement.{statement}
 use Rattle.mesh.proofs.check_topology.Tie as tie

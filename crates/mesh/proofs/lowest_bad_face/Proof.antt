@@ -5,7 +5,7 @@ use native.Mathlib.Omega.{arith}
 use lib.ListN.{length}
 use denote.Ref.{now}
 use Rattle.mesh.specs.Checks.{badFace}
-use Rattle.mesh.proofs.Search.{Searched, start, more, found, nothing}
+use Rattle.chain.proofs.Search.{Searched, start, more, found, nothing}
 use Rattle.mesh.proofs.lowest_bad_face.Statement.{statement}
 use Rattle.mesh.proofs.lowest_bad_face.Tie as tie
 

@@ -6,7 +6,7 @@ use lib.ListN.{length}
 use denote.Ref.{now}
 use borrow.Author.Tests.{lt-ltb, le-ltb}
 use Rattle.mesh.specs.Checks.{unknownCode}
-use Rattle.mesh.proofs.Search.{Searched, start, more, found, nothing}
+use Rattle.chain.proofs.Search.{Searched, start, more, found, nothing}
 use Rattle.mesh.proofs.lowest_unknown_code.Statement.{statement}
 use Rattle.mesh.proofs.lowest_unknown_code.Tie as tie
 

@@ -7,7 +7,7 @@ use lib.ListN.{length}
 use denote.Ref.{now}
 use borrow.Author.Tests.{not-true, not-false}
 use Rattle.mesh.specs.Answers.{pass, at, orElse, firstOf}
-use Rattle.mesh.proofs.Truth.{and-true}
+use Rattle.chain.proofs.Truth.{and-true}
 use Rattle.mesh.proofs.Facts.{small}
 use Rattle.numerics.specs.Gradient.{lentChecks}
 use borrow.Author.Needs.{needs}

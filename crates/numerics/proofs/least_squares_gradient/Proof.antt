@@ -6,7 +6,7 @@ use lib.ListN.{length}
 use denote.Ref.{now}
 use Rattle.mesh.specs.Pass.{unless}
 use Rattle.mesh.specs.declared.Answer.the-variants.{Accepted}
-use Rattle.numerics.specs.Checks.{slices}
+use Rattle.numerics.specs.Slices.{slices}
 use Rattle.numerics.specs.Gradient.{gradients, lentChecks, gradientChecks}
 use Rattle.numerics.proofs.Slopes.{slopes}
 use borrow.Author.Needs.{needs}

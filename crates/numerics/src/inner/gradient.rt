@@ -3,9 +3,9 @@ ghost use mathlib.Core.Path.{_≡_};
 ghost use Prim.Native.Nat.{_+_, _*_, _-_, _<_};
 ghost use lib.ListN.{length, getD};
 ghost use lib.Ieee.{nan};
-ghost use Rattle.numerics.specs.Checks.{slices};
+ghost use Rattle.numerics.specs.Slices.{slices};
 ghost use Rattle.numerics.specs.Gradient.{Sloped, sourceValue, addTerm, rightSide, product, gradientAt, gradients};
-use mesh::Vec3;
+use vector::Vec3;
 
 fn source_value(field: &[f64], own: f64, source: usize, value: f64) -> f64
     requires { ⌜ source < length (now field) + 2 ⌝ }
@@ -34,9 +34,9 @@ fn add_term(
     ensures { λ v. ⌜ v ≡ addTerm (slices (now (starts .entry)) (now (equations .entry)) (now (weights .entry)) (now (inverses .entry))) (now (field .entry)) own r right ⌝ }
 {
     let b = 4 * (r - 1);
-    let source = mesh::inner::first_of(equations, r - 1);
+    let source = chain::inner::first_of(equations, r - 1);
     let other = source_value(field, own, source, weights[b + 3]);
-    let coefficient = mesh::inner::vector_at(weights, b);
+    let coefficient = vector::inner::vector_at(weights, b);
     right.add(coefficient.scale(other - own))
 }
 
@@ -75,7 +75,7 @@ fn right_side(
             r,
             right,
         );
-        r = mesh::inner::second_of(equations, r - 1);
+        r = chain::inner::second_of(equations, r - 1);
         'run: while r == after {
             let here = after;
             after += 1;
@@ -90,7 +90,7 @@ fn right_side(
                 here,
                 right,
             );
-            r = mesh::inner::second_of(equations, here - 1);
+            r = chain::inner::second_of(equations, here - 1);
         }
     }
     right
@@ -103,9 +103,9 @@ fn times_inverse(inverses: &[f64], c: usize, v: Vec3) -> Vec3
 {
     let b = 9 * c;
     Vec3 {
-        x: mesh::inner::vector_at(inverses, b).dot(v),
-        y: mesh::inner::vector_at(inverses, b + 3).dot(v),
-        z: mesh::inner::vector_at(inverses, b + 6).dot(v),
+        x: vector::inner::vector_at(inverses, b).dot(v),
+        y: vector::inner::vector_at(inverses, b + 3).dot(v),
+        z: vector::inner::vector_at(inverses, b + 6).dot(v),
     }
 }
 
@@ -143,7 +143,7 @@ pub fn least_squares_gradient(
     let mut c = 0;
     while c < field.len() {
         let gradient = gradient_at(starts, equations, weights, inverses, records, field, c);
-        mesh::inner::put_vector(out, c, gradient);
+        vector::inner::put_vector(out, c, gradient);
         c += 1;
     }
 }

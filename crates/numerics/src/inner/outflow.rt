@@ -10,8 +10,8 @@ fn add_face(adjacency: &[usize], flux: &[f64], f: usize, out: &mut [f64])
     requires { ⌜ f < length (now flux) ⌝ }
     ensures { λ _. ⌜ now (out .exit) ≡ scatterFace (facesOf (now (adjacency .entry)) (now (flux .entry))) f (now (out .entry)) ⌝ }
 {
-    let owner = mesh::inner::first_of(adjacency, f);
-    let neighbour = mesh::inner::second_of(adjacency, f);
+    let owner = chain::inner::first_of(adjacency, f);
+    let neighbour = chain::inner::second_of(adjacency, f);
     let v = flux[f];
     out[owner] = out[owner] + v;
     if neighbour != 0 {

@@ -5,7 +5,8 @@ ghost use lib.ListN.{length, getD};
 ghost use lib.Ieee.{nan};
 ghost use Rattle.mesh.specs.Pass.{handedOut};
 ghost use Rattle.mesh.specs.declared.Outcome.the-variants.{Value};
-ghost use Rattle.mesh.specs.Records.{faceAt, secondAt};
+ghost use Rattle.mesh.specs.Records.{faceAt};
+ghost use Rattle.chain.specs.Pairs.{secondAt};
 ghost use Rattle.predictor.specs.Boundary.{bounds, Bounded, Begun, byCondition, linkedAt, boundaryAt, coefficientAt, boundaryAnswer, boundaryCoefficients};
 ghost use Rattle.predictor.specs.Coefficients.{internalAt};
 ghost use Rattle.coupling.specs.Grid.{grid, Coupled};
@@ -71,7 +72,7 @@ fn linked_at(
 {
     let link = mesh::inner::link_at(codes, values, f);
     let face = mesh::inner::face_at(adjacency, geometry, f);
-    let n = mesh::inner::first_of(adjacency, link.peer - 1);
+    let n = chain::inner::first_of(adjacency, link.peer - 1);
     let other = mesh::inner::cell_at(places, n);
     let span = span_to(face, places, other.center.sub(link.translation));
     coupling::linked_coefficient(span, pair_at(responses, face.owner, n))
@@ -93,7 +94,7 @@ fn boundary_at(
     requires { ⌜ f < faces ⌝ }
     ensures { λ r. ⌜ r ≡ boundaryAt (grid (now (adjacency .entry)) (now (geometry .entry)) (now (places .entry))) (bounds (now (codes .entry)) (now (values .entry))) (now (responses .entry)) f ⌝ }
 {
-    let peer = mesh::inner::second_of(codes, f);
+    let peer = chain::inner::second_of(codes, f);
     if peer == 0 {
         let condition = mesh::inner::condition_at(codes, values, f);
         return by_condition(adjacency, geometry, places, responses, faces, f, condition);
@@ -126,7 +127,7 @@ fn stage_at(
     requires { ⌜ f < faces ⌝ }
     ensures { λ r. ⌜ r ≡ staged (internalAt (grid (now (adjacency .entry)) (now (geometry .entry)) (now (places .entry))) (now (responses .entry)) f) (coefficientAt (grid (now (adjacency .entry)) (now (geometry .entry)) (now (places .entry))) (bounds (now (codes .entry)) (now (values .entry))) (now (responses .entry)) f) ⌝ }
 {
-    let neighbour = mesh::inner::second_of(adjacency, f);
+    let neighbour = chain::inner::second_of(adjacency, f);
     if neighbour == 0 {
         return late(boundary_at(
             adjacency,
@@ -215,7 +216,7 @@ fn completed_at(
     requires { ⌜ (f < length (now out)) × (internalAt (grid (now adjacency) (now geometry) (now places)) (now responses) f ≡ Value (getD (now out) f nan)) ⌝ }
     ensures { λ r. ⌜ r ≡ coefficientAt (grid (now (adjacency .entry)) (now (geometry .entry)) (now (places .entry))) (bounds (now (codes .entry)) (now (values .entry))) (now (responses .entry)) f ⌝ }
 {
-    let neighbour = mesh::inner::second_of(adjacency, f);
+    let neighbour = chain::inner::second_of(adjacency, f);
     if neighbour == 0 {
         return boundary_at(
             adjacency,

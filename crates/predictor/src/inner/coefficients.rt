@@ -13,8 +13,8 @@ use coupling::Span;
 use mesh::Answer;
 use mesh::Face;
 use mesh::Outcome;
-use mesh::Vec3;
 use passes::settle;
+use vector::Vec3;
 
 // A face with its owner's centre, and a centre on its other side.
 pub fn span_to(face: Face, places: &[f64], other: Vec3) -> Span
@@ -49,10 +49,10 @@ pub fn distances_at(geometry: &[f64], places: &[f64], f: usize, o: usize, n: usi
     requires { ⌜ (9 * f + 8 < length (now geometry)) × (4 * o + 3 < length (now places)) × (4 * n + 3 < length (now places)) ⌝ }
     ensures { λ r. ⌜ r ≡ distancesTo (now (geometry .entry)) (now (places .entry)) f o n ⌝ }
 {
-    let center = mesh::inner::vector_at(geometry, 9 * f);
+    let center = vector::inner::vector_at(geometry, 9 * f);
     Pair {
-        owner: center.sub(mesh::inner::vector_at(places, 4 * o)).norm(),
-        other: center.sub(mesh::inner::vector_at(places, 4 * n)).norm(),
+        owner: center.sub(vector::inner::vector_at(places, 4 * o)).norm(),
+        other: center.sub(vector::inner::vector_at(places, 4 * n)).norm(),
     }
 }
 

@@ -3,8 +3,8 @@ ghost use mathlib.Core.Path.{_≡_};
 ghost use Prim.Native.Nat.{_+_, _*_, _<_};
 ghost use lib.ListN.{length};
 ghost use Rattle.mesh.specs.Pass.{handedOut};
-ghost use Rattle.mesh.specs.Records.{secondAt};
-ghost use Rattle.numerics.specs.Checks.{slices};
+ghost use Rattle.chain.specs.Pairs.{secondAt};
+ghost use Rattle.numerics.specs.Slices.{slices};
 ghost use Rattle.numerics.specs.Gradient.{gradients, Sloped};
 ghost use Rattle.predictor.specs.Coefficients.{internalAt, coefficients};
 ghost use Rattle.coupling.specs.Grid.{grid, Coupled};
@@ -40,8 +40,8 @@ fn side_at(
 {
     let b = 3 * c;
     Side {
-        velocity: mesh::inner::vector_at(velocity, b),
-        gradient: mesh::inner::vector_at(gradient, b),
+        velocity: vector::inner::vector_at(velocity, b),
+        gradient: vector::inner::vector_at(gradient, b),
         pressure: pressure[c],
         response: responses[c],
     }
@@ -101,7 +101,7 @@ fn stage_at(
     ensures { λ r. ⌜ r ≡ staged (internalAt (grid (now (adjacency .entry)) (now (geometry .entry)) (now (places .entry))) (now (responses .entry)) f) (predictedAt (grid (now (adjacency .entry)) (now (geometry .entry)) (now (places .entry))) (flow (now (velocity .entry)) (now (pressure .entry)) (now (gradient .entry)) (now (responses .entry))) (now (walls .entry)) f) ⌝ }
     ensures { λ _. ⌜ now (internal .exit) ≡ storedAt (now (internal .entry)) f (internalAt (grid (now (adjacency .entry)) (now (geometry .entry)) (now (places .entry))) (now (responses .entry)) f) ⌝ }
 {
-    let neighbour = mesh::inner::second_of(adjacency, f);
+    let neighbour = chain::inner::second_of(adjacency, f);
     if neighbour == 0 {
         store(internal, f, 0.0);
         return Stage::Kept(walls[f]);

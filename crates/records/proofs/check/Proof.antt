@@ -6,7 +6,7 @@ use native.Mathlib.Omega.{arith}
 use lib.Dec.{eqb}
 use borrow.Author.Tests.{eq-eqb, ne-eqb, eqb-true, eqb-false}
 use denote.Ref.{now}
-use Rattle.numerics.specs.Checks.{slices}
+use Rattle.numerics.specs.Slices.{slices}
 use Rattle.numerics.specs.Gradient.{lentChecks}
 use borrow.Author.Needs.{needs}
 use Rattle.records.proofs.check.Statement.{statement}

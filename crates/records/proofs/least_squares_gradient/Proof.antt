@@ -56,14 +56,14 @@ use denote.Exit.{yes}
 use Rattle.mesh.specs.Pass.{unless}
 use Rattle.mesh.specs.declared.Answer.{Answer}
 use Rattle.mesh.specs.declared.Counts.{Counts}
-use Rattle.mesh.specs.declared.Vec3.{Vec3}
+use Rattle.vector.specs.declared.Vec3.{Vec3}
 use Rattle.mesh.proofs.Answer as R
 use Rattle.mesh.proofs.Answer.Laws as R′
 use Rattle.mesh.proofs.Counts as N
 use Rattle.mesh.proofs.Counts.Laws as N′
-use Rattle.mesh.proofs.Vec3 as T
-use Rattle.mesh.proofs.Vec3.Laws as T′
-use Rattle.numerics.specs.Checks.{Slices, slices}
+use Rattle.vector.proofs.Vec3 as T
+use Rattle.vector.proofs.Vec3.Laws as T′
+use Rattle.numerics.specs.Slices.{Slices, slices}
 use Rattle.numerics.specs.Gradient.{gradientAt, gradients, Sloped}
 use Rattle.numerics.proofs.inner.gradient.gradient_at as gradient
 use Rattle.numerics.proofs.inner.gradient.gradient_at.Symbol as gradient-def

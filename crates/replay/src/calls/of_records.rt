@@ -10,7 +10,7 @@ use crate::words::numbers;
 use crate::words::reals;
 use mesh::Answer;
 use mesh::Counts;
-use mesh::Vec3;
+use vector::Vec3;
 
 // As many records as there is room for in an output of numbers.
 const CELLS: usize = 341;

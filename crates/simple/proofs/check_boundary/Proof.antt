@@ -1,7 +1,7 @@
 -- `simple::check_boundary` meets its contract: the checks of shape, then 4 and 6.
 use Rattle.predictor.specs.Boundary.{boundaryChecks}
-use Rattle.mesh.proofs.Search.{names-lowest}
-use Rattle.mesh.specs.Search.{lowestWhere}
+use Rattle.chain.proofs.Search.{names-lowest}
+use Rattle.chain.specs.Search.{lowestWhere}
 use Rattle.mesh.specs.Checks.{badLink}
 use Rattle.mesh.specs.Answers.{orElse}
 use denote.Ref.{now}

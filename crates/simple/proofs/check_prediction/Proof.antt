@@ -1,6 +1,6 @@
 -- `simple::check_prediction` meets its contract: the checks of shape, then 4 and 5.
 use Rattle.predictor.specs.Prediction.{predictionChecks}
-use Rattle.mesh.proofs.Truth.{and-true}
+use Rattle.chain.proofs.Truth.{and-true}
 use Rattle.mesh.proofs.Facts.{shape-accepted, small}
 use Rattle.mesh.specs.Answers.{orElse}
 use lib.Dec.{leb}

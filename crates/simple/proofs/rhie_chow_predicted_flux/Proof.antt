@@ -4,7 +4,7 @@ use Rattle.mesh.specs.declared.Answer.the-variants.{Accepted}
 use Rattle.predictor.specs.Prediction.{Flow, flow, Lent, lent, predictionChecks, predictionAnswer, predictedFluxes}
 use Rattle.coupling.specs.Grid.{Grid, grid, field}
 use Rattle.numerics.specs.Gradient.{gradients}
-use Rattle.numerics.specs.Checks.{Slices, slices}
+use Rattle.numerics.specs.Slices.{Slices, slices}
 use Rattle.mesh.specs.Pass.{handedOut, unless}
 use Rattle.mesh.specs.Answers.{orElse}
 use denote.Ref.{now}

@@ -1,7 +1,7 @@
 -- `step::check_step` meets its contract: the checks of shape, then those of the mesh.
 use Rattle.step.specs.Call.{stepChecks}
-use Rattle.mesh.proofs.Search.{names-lowest}
-use Rattle.mesh.specs.Search.{lowestWhere}
+use Rattle.chain.proofs.Search.{names-lowest}
+use Rattle.chain.specs.Search.{lowestWhere}
 use Rattle.mesh.specs.Checks.{badLink}
 use Rattle.mesh.specs.Answers.{orElse}
 use Rattle.step.proofs.Passed.{refused-first}

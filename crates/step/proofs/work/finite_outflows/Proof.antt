@@ -6,8 +6,8 @@ use native.Mathlib.Omega.{arith}
 use lib.ListN.{length}
 use denote.Ref.{now}
 use borrow.Author.Tests.{not-true, not-false}
-use Rattle.mesh.specs.Search.{lowestWhere}
-use Rattle.mesh.proofs.Search.{Searched, start, more, found, nothing}
+use Rattle.chain.specs.Search.{lowestWhere}
+use Rattle.chain.proofs.Search.{Searched, start, more, found, nothing}
 use Rattle.scheme.specs.Step.{endless, spilled}
 use Rattle.step.proofs.work.finite_outflows.Statement.{statement}
 use Rattle.step.proofs.work.finite_outflows.Tie as tie

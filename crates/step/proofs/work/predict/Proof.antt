@@ -3,9 +3,9 @@ use Rattle.passes.proofs.Stages.{handed-out, never-accepted}
 use Rattle.scheme.proofs.Parts.{begun, same-slices, sloped}
 use Rattle.coupling.specs.Grid.{Grid, grid}
 use Rattle.predictor.specs.Prediction.{Flow, flow, predictionAnswer, predictedFluxes}
-use Rattle.numerics.specs.Checks.{Slices, slices}
+use Rattle.numerics.specs.Slices.{Slices, slices}
 use Rattle.numerics.specs.Gradient.{gradients}
-use Rattle.numerics.specs.Lent.{Lent, lent}
+use Rattle.stencil.specs.Lent.{Lent, lent}
 use Rattle.mesh.specs.Answers.{orElse}
 use denote.Ref.{now}
 use lib.Ieee.{Float}

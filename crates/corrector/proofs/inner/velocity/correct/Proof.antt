@@ -1,8 +1,8 @@
 -- `corrector::inner::velocity::correct` meets its contract: the cells below c stand, and their velocities are written.
 use Rattle.corrector.specs.Velocity.{correctedAt, failsAt}
-use Rattle.mesh.proofs.Vectors as vectors
-use Rattle.mesh.proofs.Search as search
-use Rattle.mesh.specs.declared.Vec3.{Vec3}
+use Rattle.vector.proofs.Vectors as vectors
+use Rattle.chain.proofs.Search as search
+use Rattle.vector.specs.declared.Vec3.{Vec3}
 use denote.Ref.{now}
 use lib.Ieee.{Float}
 use lib.ListN.{length}

@@ -2,7 +2,7 @@
 use mathlib.Core.Path.{_∙_, ap}
 use native.Mathlib.Omega.{arith}
 use denote.Ref.{now}
-use Rattle.mesh.specs.declared.Vec3.{Vec3}
+use Rattle.vector.specs.declared.Vec3.{Vec3}
 use Rattle.numerics.specs.Gradient.{product, gradientAt}
 use borrow.Author.Needs.{needs}
 use Rattle.numerics.proofs.inner.gradient.gradient_at.Statement.{statement}

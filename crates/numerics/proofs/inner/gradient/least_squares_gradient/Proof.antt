@@ -6,8 +6,8 @@ use native.Mathlib.Omega.{arith}
 use lib.ListN.{length}
 use lib.Ieee.{Float}
 use denote.Ref.{now}
-use Rattle.mesh.proofs.Vectors.{Written, start, more, finish}
-use Rattle.numerics.specs.Checks.{slices}
+use Rattle.vector.proofs.Vectors.{Written, start, more, finish}
+use Rattle.numerics.specs.Slices.{slices}
 use Rattle.numerics.specs.Gradient.{gradientAt, gradients}
 use Rattle.numerics.proofs.inner.gradient.least_squares_gradient.Statement.{statement}
 use Rattle.numerics.proofs.inner.gradient.least_squares_gradient.Tie as tie

@@ -7,10 +7,10 @@ use native.Mathlib.Nat.{le-refl, le-trans, le-of-lt, lt-of-le-of-lt}
 use lib.ListN.{length, getD}
 use lib.Ieee.{Float, nan}
 use denote.Ref.{now}
-use Rattle.mesh.specs.Chains.{nextOf, trail, Chain}
-use Rattle.mesh.specs.declared.Vec3.{Vec3}
-use Rattle.mesh.proofs.Chains.{Onward, onward, room, trail-on, trail-over}
-use Rattle.numerics.specs.Checks.{Slices, slices}
+use Rattle.chain.specs.Chains.{nextOf, trail, Chain}
+use Rattle.vector.specs.declared.Vec3.{Vec3}
+use Rattle.chain.proofs.Chains.{Onward, onward, room, trail-on, trail-over}
+use Rattle.numerics.specs.Slices.{Slices, slices}
 use Rattle.numerics.specs.Gradient.{Sloped, addTerm, addTerms, rightSide}
 use Rattle.numerics.proofs.inner.gradient.right_side.Statement.{statement}
 use Rattle.numerics.proofs.inner.gradient.right_side.Tie as tie

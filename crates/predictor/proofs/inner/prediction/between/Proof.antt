@@ -6,7 +6,7 @@ use Rattle.predictor.specs.Prediction.{flow, predictedAt}
 use Rattle.coupling.specs.Grid.{Grid, grid}
 use Rattle.predictor.specs.Coefficients.{internalAt}
 use Rattle.mesh.specs.declared.Face.{Face}
-use Rattle.mesh.specs.Records.{secondAt}
+use Rattle.chain.specs.Pairs.{secondAt}
 use borrow.Author.Tests.{ne-eqb}
 use denote.Ref.{now}
 use lib.ListN.{length}

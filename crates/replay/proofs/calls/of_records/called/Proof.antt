@@ -56,13 +56,13 @@ use denote.Triple.Walked.{needs, Stays, stay-dropped, walkOf, goes-dropped, Walk
 use denote.Exit.{yes}
 use Rattle.mesh.specs.declared.Answer.{Answer}
 use Rattle.mesh.specs.declared.Counts.{Counts}
-use Rattle.mesh.specs.declared.Vec3.{Vec3}
+use Rattle.vector.specs.declared.Vec3.{Vec3}
 use Rattle.mesh.proofs.Answer as R
 use Rattle.mesh.proofs.Answer.Laws as R′
 use Rattle.mesh.proofs.Counts as N
 use Rattle.mesh.proofs.Counts.Laws as N′
-use Rattle.mesh.proofs.Vec3 as T
-use Rattle.mesh.proofs.Vec3.Laws as T′
+use Rattle.vector.proofs.Vec3 as T
+use Rattle.vector.proofs.Vec3.Laws as T′
 use Rattle.records.proofs.Lent as L
 use Rattle.records.proofs.Lent.{word, numbers, floats, valueOf, countsOf, Five, Six, token-out, token-in}
 use Rattle.records.proofs.least_squares_gradient as gradient

@@ -1,0 +1,66 @@
+-- What the checks of a stencil's entry establish. Assumes nothing.
+use mathlib.Core.Path.{_≡_, sym, _∙_}
+use mathlib.Core.Bool.{_&&_}
+use Prim.Native.Nat.{ℕ, _*_, _≤_, _<_}
+use native.Mathlib.Omega.{arith}
+use lib.Dec.{eqb, leb}
+use lib.ListN.{length}
+use borrow.Author.Tests.{eqb-true, leb-true}
+use Rattle.mesh.specs.Answers.{pass, firstOf}
+use Rattle.mesh.specs.Checks.{sizesOk}
+use Rattle.mesh.specs.Mesh.{Mesh, Conditions, meshSized, conditionsSized, topology, Sized, Sound}
+use Rattle.mesh.specs.declared.Answer.{Answer}
+use Rattle.mesh.specs.declared.Answer.the-variants.{Accepted}
+use Rattle.chain.proofs.Truth.{and-true, every-at}
+use Rattle.mesh.proofs.Facts.{both-accepted, passed, peer-below}
+use Rattle.mesh.proofs.Good.{sized, sound}
+use Rattle.stencil.specs.Lent.{Good}
+use Rattle.numerics.specs.Slices.{Lengths, stencilSizes, stencilSized}
+use Rattle.stencil.specs.Checks.{stencilChecks, StencilChecked, lentOf}
+
+pub lent-good : (m : Mesh) (k : Conditions) → Sized m → Sound m (k .codes) → length (k .codes) ≡ 2 * (m .counts .faces) → length (k .values) ≡ 4 * (m .counts .faces) → Good (lentOf m k)
+lent-good m k z s c v = record {
+  adjacency-size = z .adjacency;
+  geometry-size = z .geometry;
+  places-size = z .places;
+  facing-size = z .facing;
+  codes-size = c;
+  values-size = v;
+  web = record { heads-size = z .heads; bordering-size = z .bordering; ended = s .borderings };
+  owner-cell = λ f l. s .faces f l .owner;
+  neighbour-cell = λ f l. s .faces f l .neighbour;
+  peer-face = λ f l. peer-below (m .adjacency) (k .codes) (m .counts .faces) f c (s .links f l);
+  faces-end = s .facings;
+}
+
+pub record Passed (m : Mesh) (k : Conditions) (records : ℕ) (n : Lengths) : Type 0 where
+  pub good : Good (lentOf m k)
+  pub starts : n .starts ≡ m .counts .cells
+  pub equations : n .equations ≡ 2 * records
+  pub weights : n .weights ≡ 4 * records
+  pub inverses : n .inverses ≡ 9 * (m .counts .cells)
+  pub small : records < 65536
+
+pub passed-checks : (m : Mesh) (k : Conditions) (records : ℕ) (n : Lengths) (r : Answer) → StencilChecked m k records n r → r ≡ Accepted → Passed m k records n
+unfolding stencilChecks firstOf
+passed-checks m k records n r c e =
+    let shape = meshSized m && conditionsSized (m .counts .faces) (k .codes) (k .values) in
+    let one = both-accepted (pass 1 (sizesOk (m .counts) && leb records 65535)) _ (sym (c .is) ∙ e) in
+    let two = both-accepted (pass 2 (shape && stencilSized (m .counts .cells) records n)) _ (one .1) in
+    let three = both-accepted (pass 3 (eqb (k .number) (m .counts .mesh))) _ (two .1) in
+    let rest = both-accepted (topology m (k .codes) (c .link)) Accepted (three .1) in
+    let counts = and-true (sizesOk (m .counts)) (leb records 65535) (passed 1 _ (one .0)) in
+    let all = and-true shape (stencilSized (m .counts .cells) records n) (passed 2 _ (two .0)) in
+    let lengths = and-true (meshSized m) (conditionsSized (m .counts .faces) (k .codes) (k .values)) (all .0) in
+    let own = and-true (eqb (length (k .codes)) (2 * (m .counts .faces))) (eqb (length (k .values)) (4 * (m .counts .faces))) (lengths .1) in
+    let outs = every-at (eqb (n .starts) (m .counts .cells)) (stencilSizes (m .counts .cells) records n) (all .1) in
+    let z = sized m (lengths .0) in
+    let few = leb-true records 65535 (counts .1) in
+    record {
+      good = lent-good m k z (sound m (k .codes) (c .link) z (eqb-true _ _ (own .0)) (c .names) (rest .0)) (eqb-true _ _ (own .0)) (eqb-true _ _ (own .1));
+      starts = eqb-true _ _ (outs .0);
+      equations = eqb-true _ _ (outs .1 0);
+      weights = eqb-true _ _ (outs .1 1);
+      inverses = eqb-true _ _ (outs .1 2);
+      small = omega arith;
+    }

@@ -1,0 +1,2 @@
+-- Laws of lists of vectors.
+pub mod Vectors

@@ -132,6 +132,34 @@ pub fn run(port: &Port, settings: &Settings) -> bool {
     differ == 0 && alone.failed.is_empty() && all_met
 }
 
+/// Compares entries on what is lent, each with outputs of the right lengths, and prints a line; gives how
+/// many were compared, and whether they agreed and demand 3 held of the accepted ones.
+#[cfg(feature = "sheets")]
+pub fn on(port: &Port, name: &str, entries: &[Entry], lent: &Lent) -> (u64, bool) {
+    let mut tally = Tally::default();
+    for &entry in entries {
+        if let Some(call) = port.call(entry) {
+            let outputs = patterned(entry, lent);
+            compare_call(name, entry, call, lent, &outputs, true, &mut tally);
+        }
+    }
+    let [accepted, before, within] = tally.kinds;
+    println!(
+        "{name}: {} calls compared ({accepted} accepted, {} refused), {} differ; {} meet demand 3, {} fail",
+        tally.compared,
+        before + within,
+        tally.differ,
+        tally.claims.met,
+        tally.claims.failed.len()
+    );
+    print_failures(&tally.claims.failed);
+    if let Some(difference) = &tally.smallest {
+        println!("{}", difference.text);
+    }
+    let agreed = tally.differ == 0 && tally.claims.failed.is_empty();
+    (tally.compared, agreed)
+}
+
 /// How many calls differ, without a word.
 pub fn differing(port: &Port, settings: &Settings) -> u64 {
     let mut random = Random::new(settings.seed);

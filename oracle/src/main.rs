@@ -16,6 +16,8 @@ mod makers;
 mod mirror;
 mod port;
 mod random;
+#[cfg(feature = "sheets")]
+mod sheets;
 
 use std::process::ExitCode;
 
@@ -26,6 +28,7 @@ usage: oracle COMMAND
   compare [--seed S] [--cases N]   the port against the Rust, on N meshes made at random and some by hand
   list                             the fixed list, for the repository's own tests
   edges                            the lines of the program `edges`
+  sheets FILE...                   the port against the Rust, on sheets of the sheet program
   bench                            times of both sides
   self-test [--seed S] [--cases N] the comparison tried on the Rust itself and on spoiled copies of it
   coverage-cases [--seed S] [--cases N] [--built]
@@ -39,6 +42,9 @@ fn main() -> ExitCode {
         Some((command, options)) => (command.as_str(), options),
         None => ("", &[][..]),
     };
+    if command == "sheets" {
+        return sheets(options);
+    }
     let Some(settings) = settings(options) else {
         return refused();
     };
@@ -61,6 +67,20 @@ fn main() -> ExitCode {
         _ => return refused(),
     }
     ExitCode::SUCCESS
+}
+
+#[cfg(feature = "sheets")]
+fn sheets(files: &[String]) -> ExitCode {
+    match sheets::run(&port::linked(), files) {
+        true => ExitCode::SUCCESS,
+        false => ExitCode::FAILURE,
+    }
+}
+
+#[cfg(not(feature = "sheets"))]
+fn sheets(_: &[String]) -> ExitCode {
+    eprintln!("oracle: built without the feature `sheets`");
+    ExitCode::from(2)
 }
 
 fn refused() -> ExitCode {

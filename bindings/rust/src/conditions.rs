@@ -118,6 +118,16 @@ impl Conditions {
         self.codes[2 * face + 1].checked_sub(1)
     }
 
+    /// Per face: condition (0 absent, 1 fixed value, 2 zero gradient), peer + 1 or 0.
+    pub fn codes(&self) -> &[usize] {
+        &self.codes
+    }
+
+    /// Per face: fixed value, translation, three numbers.
+    pub fn values(&self) -> &[f64] {
+        &self.values
+    }
+
     /// The number of the mesh they belong to.
     pub fn number(&self) -> u64 {
         self.number

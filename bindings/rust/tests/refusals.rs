@@ -219,6 +219,22 @@ fn conditions_of_missing_faces_are_errors() {
 }
 
 #[test]
+fn conditions_are_lent_as_the_header_says() {
+    let mesh = base().made().mesh;
+    let mut conditions = Conditions::absent(&mesh);
+    conditions.set(3, Condition::FixedValue(4.0)).unwrap();
+    conditions.set(4, Condition::ZeroGradient).unwrap();
+    conditions.link(1, 2, [5.0, 6.0, 7.0]).unwrap();
+    let codes = [0, 0, 0, 3, 0, 2, 1, 0, 2, 0, 0, 0, 0, 0];
+    assert_eq!(conditions.codes(), codes);
+    let mut values = [0.0; 28];
+    values[5..8].copy_from_slice(&[5.0, 6.0, 7.0]);
+    values[9..12].copy_from_slice(&[-5.0, -6.0, -7.0]);
+    values[12] = 4.0;
+    assert_eq!(conditions.values(), values);
+}
+
+#[test]
 fn numbers_kinds_and_sentences_fit() {
     for number in 0..20 {
         assert_eq!(RefusalKind::from_number(number).number(), number);

@@ -59,9 +59,10 @@ fn cell_count(form: Form, heads: &[usize]) -> usize
     }
 }
 
-// Whether record i, from 0, has an item below the limit, and ends its chain or leads to a later record.
+// Whether record i, from 0, which is not the last, has an item below the limit, and ends its chain or leads to
+// a later record.
 fn leads_on(limit: usize, records: &[usize], i: usize) -> bool
-    requires { ⌜ 2 * i + 1 < length (now records) ⌝ }
+    requires { ⌜ i + 1 < length (now records) / 2 ⌝ }
     ensures { λ r. ⌜ r ≡ leadsOn limit (now (records .entry)) i ⌝ }
 {
     if limit <= first_of(records, i) {
@@ -70,7 +71,7 @@ fn leads_on(limit: usize, records: &[usize], i: usize) -> bool
     let next = second_of(records, i);
     // most records lead to the one behind them, and this asks least of those
     if next == i + 2 {
-        return i + 1 < records.len() / 2;
+        return true;
     }
     if next == 0 {
         return true;
@@ -81,18 +82,30 @@ fn leads_on(limit: usize, records: &[usize], i: usize) -> bool
     next <= records.len() / 2
 }
 
+// Whether the last record, i, does: it ends its chain.
+fn ends_at(limit: usize, records: &[usize], i: usize) -> bool
+    requires { ⌜ i + 1 ≡ length (now records) / 2 ⌝ }
+    ensures { λ r. ⌜ r ≡ leadsOn limit (now (records .entry)) i ⌝ }
+{
+    (first_of(records, i) < limit) & (second_of(records, i) == 0)
+}
+
 // Whether every record does, so that each chain of them ends.
 fn all_lead_on(limit: usize, records: &[usize]) -> bool
     ensures { λ r. ⌜ AllLeadOn r limit (now (records .entry)) ⌝ }
 {
+    let count = records.len() / 2;
+    if count == 0 {
+        return true;
+    }
     let mut i = 0;
-    while i < records.len() / 2 {
+    while i + 1 < count {
         if !leads_on(limit, records, i) {
             return false;
         }
         i += 1;
     }
-    true
+    ends_at(limit, records, i)
 }
 
 // Whether no cell's first record is beyond so many records.

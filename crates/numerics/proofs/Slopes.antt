@@ -36,7 +36,7 @@ slopes-by cells records s field sized v none =
       chains = λ c l. subst (λ (k : ℕ). Chain (s .equations) records (k + 2) (getD (s .starts) c 0)) (sym v) (subst (λ (k : ℕ). Chain (s .equations) k (cells + 2) (getD (s .starts) c 0)) half (chains-in (cells + 2) (s .equations) Single (s .starts) none c (omega arith)));
     }
 
-pub slopes-sized : (n : Counts) (stencil records : ℕ) (s : Slices) (number : ℕ) (field : List Float) (fits : Bool) → lentChecks n stencil records s number field fits ≡ Accepted → Sloped s records field × (length field ≡ n .cells) × (fits ≡ true)
+slopes-sized : (n : Counts) (stencil records : ℕ) (s : Slices) (number : ℕ) (field : List Float) (fits : Bool) → lentChecks n stencil records s number field fits ≡ Accepted → Sloped s records field × (length field ≡ n .cells) × (fits ≡ true)
 unfolding lentChecks firstOf
 slopes-sized n stencil records s number field fits h =
     let sized = stencilSized (n .cells) records (lengthsOf s) in

@@ -1,4 +1,4 @@
--- `mesh::lower_of` meets its contract.
+-- `chain::lower_of` meets its contract.
 use borrow.Author.Tests.{lt-ltb, le-ltb}
 use Rattle.chain.specs.Search.{lower}
 use borrow.Author.Needs.{needs}

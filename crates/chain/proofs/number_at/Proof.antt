@@ -1,4 +1,4 @@
--- `mesh::number_at` meets its contract.
+-- `chain::number_at` meets its contract.
 use mathlib.Core.Path.{sym}
 use lib.ListN.{List·getD-eq-default}
 use denote.Ref.{now}

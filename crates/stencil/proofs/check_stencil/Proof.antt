@@ -1,4 +1,4 @@
--- `numerics::check_stencil` meets its contract: the checks 1, 2 and 3, and after them those of the topology.
+-- `stencil::check_stencil` meets its contract: the checks 1, 2 and 3, and after them those of the topology.
 use mathlib.Core.Path.{_≡_, sym, _∙_}
 use mathlib.Core.Bool.{_&&_}
 use Prim.Native.Nat.{_/_}

@@ -1,4 +1,4 @@
--- `numerics::least_squares_stencil` meets its contract: the checks, and after them the work.
+-- `stencil::least_squares_stencil` meets its contract: the checks, and after them the work.
 use mathlib.Core.Path.{_≡_, refl, sym, _∙_}
 use lib.ListN.{length}
 use denote.Ref.{now}

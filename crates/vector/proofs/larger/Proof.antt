@@ -1,4 +1,4 @@
--- `mesh::vector::larger` meets its contract.
+-- `vector::larger` meets its contract.
 use Rattle.vector.specs.Vector.{greater}
 use Rattle.vector.proofs.larger.Statement.{statement}
 use Rattle.vector.proofs.larger.Tie as tie

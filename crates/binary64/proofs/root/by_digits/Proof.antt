@@ -1,4 +1,4 @@
--- `root::by_digits` meets its contract. The loop's invariant: the digits of a * 2 ^ 10 passed so far are q * q + rest, with rest at most 2 * q, and n has those to come.
+-- `binary64::root::by_digits` meets its contract. The loop's invariant: the digits of a * 2 ^ 10 passed so far are q * q + rest, with rest at most 2 * q, and n has those to come.
 -- Assumes nothing.
 use mathlib.Core.Path.{_≡_, refl, sym, ap, _∙_, subst}
 use mathlib.Core.Logic.{⊎-elim}

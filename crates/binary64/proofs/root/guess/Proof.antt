@@ -1,4 +1,4 @@
--- `root::guess` meets its contract: the patterns that it makes are no NaN's. Assumes nothing.
+-- `binary64::root::guess` meets its contract: the patterns that it makes are no NaN's. Assumes nothing.
 use native.Mathlib.Omega.{arith}
 use Rattle.binary64.proofs.Bits.{no-nan-bits, equal-no-nan}
 use Rattle.binary64.proofs.root.Placed.{start-most}

@@ -1,4 +1,4 @@
--- `root::normal` meets its contract (`root/Placed.antt`). Assumes nothing.
+-- `binary64::root::normal` meets its contract (`root/Placed.antt`). Assumes nothing.
 use mathlib.Core.Path.{_≡_, sym, ap, _∙_, subst}
 use mathlib.Core.Logic.{inl, inr}
 use Prim.Native.Nat.{ℕ, _+_, _-_, _*_, _/_, _%_, _^_, _<_}

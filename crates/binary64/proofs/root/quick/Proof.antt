@@ -1,4 +1,4 @@
--- `root::quick` meets its contract: what settles the guess makes it the root (`root/Placed.antt`). Assumes nothing.
+-- `binary64::root::quick` meets its contract: what settles the guess makes it the root (`root/Placed.antt`). Assumes nothing.
 use mathlib.Core.Path.{_≡_, refl, sym, _∙_, subst}
 use mathlib.Core.Logic.{inl, inr}
 use native.Mathlib.Omega.{arith}

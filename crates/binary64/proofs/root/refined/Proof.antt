@@ -1,4 +1,4 @@
--- `root::refined` meets its contract: a sum is a value of the format. Assumes nothing.
+-- `binary64::root::refined` meets its contract: a sum is a value of the format. Assumes nothing.
 use lib.Ieee.{binary64}
 use lib.Ieee.Fits.{add-fits}
 use Rattle.binary64.proofs.root.refined.Statement.{statement}

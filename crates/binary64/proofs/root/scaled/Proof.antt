@@ -1,4 +1,4 @@
--- `root::scaled` meets its contract (`Rounding.antt`). Assumes nothing.
+-- `binary64::root::scaled` meets its contract (`Rounding.antt`). Assumes nothing.
 use Prim.Native.Nat.{ℕ, _^_, _<_}
 use native.Mathlib.Omega.{arith}
 use borrow.Author.Needs.{needs}

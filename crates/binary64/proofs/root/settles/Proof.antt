@@ -1,4 +1,4 @@
--- `root::settles` meets its contract. Assumes nothing.
+-- `binary64::root::settles` meets its contract. Assumes nothing.
 use lib.Dec.{lit≤}
 use Rattle.binary64.proofs.Bits.{no-nan-bits}
 use borrow.Author.Needs.{needs}

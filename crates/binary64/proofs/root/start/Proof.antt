@@ -1,4 +1,4 @@
--- `root::start` meets its contract: the pattern that it makes has 26 digits after the exponent of 1. Assumes nothing.
+-- `binary64::root::start` meets its contract: the pattern that it makes has 26 digits after the exponent of 1. Assumes nothing.
 use native.Mathlib.Omega.{arith}
 use Rattle.binary64.proofs.Bits.{no-nan-bits, equal-no-nan}
 use Rattle.binary64.proofs.root.Placed.{start-of}

@@ -1,4 +1,4 @@
--- `mesh::chain::cell_count` meets its contract.
+-- `chain::walk::cell_count` meets its contract.
 use borrow.Author.Needs.{needs}
 use Rattle.chain.proofs.walk.cell_count.Statement.{statement}
 use Rattle.chain.proofs.walk.cell_count.Tie as tie

@@ -1,4 +1,4 @@
--- `mesh::chain::head_at` meets its contract.
+-- `chain::walk::head_at` meets its contract.
 use borrow.Author.Needs.{needs}
 use Rattle.chain.proofs.walk.head_at.Statement.{statement}
 use Rattle.chain.proofs.walk.head_at.Tie as tie

@@ -1,4 +1,4 @@
--- `mesh::chain::heads_within` meets its contract: every cell below `cell` starts within the records.
+-- `chain::walk::heads_within` meets its contract: every cell below `cell` starts within the records.
 use mathlib.Core.Path.{_≡_, sym, subst}
 use mathlib.Core.Bool.{false≢true}
 use Prim.Native.Nat.{ℕ, _-_, _<_, _≤_}

@@ -1,20 +1,19 @@
--- `mesh::chain::leads_on` meets its contract.
+-- `chain::walk::leads_on` meets its contract.
 use mathlib.Core.Path.{_≡_, refl}
-use mathlib.Core.Bool.{_&&_, _||_}
-use Prim.Native.Nat.{ℕ, suc, _+_}
+use mathlib.Core.Bool.{true, _&&_, _||_}
+use Prim.Native.Nat.{ℕ, _+_, _<_}
 use native.Mathlib.Omega.{arith}
 use lib.Dec.{eqb, leb, ltb}
-use borrow.Author.Tests.{lt-ltb, le-ltb, eq-eqb, ne-eqb}
+use borrow.Author.Tests.{lt-ltb, le-ltb, le-leb, eq-eqb, ne-eqb}
 use Rattle.chain.specs.Chains.{leadsOn}
 use borrow.Author.Needs.{needs}
 use Rattle.chain.proofs.walk.leads_on.Statement.{statement}
 use Rattle.chain.proofs.walk.leads_on.Tie as tie
 
--- a record that leads to the one behind it leads on where there is one behind it
-next-one : (i n next : ℕ) → next ≡ i + 2 → ltb (i + 1) n ≡ (eqb next 0 || (ltb (i + 1) next && leb next n))
-next-one i n next e =
-    let behind : next ≡ suc (i + 1) = omega (arith, e) in
-    rw (ne-eqb next 0 (λ z. omega (arith, e, z)), lt-ltb (i + 1) next (omega (arith, e)), behind) refl
+-- a record that leads to the one behind it, which is there, leads on
+next-one : (i n next : ℕ) → i + 1 < n → next ≡ i + 2 → true ≡ (eqb next 0 || (ltb (i + 1) next && leb next n))
+next-one i n next h e =
+    rw (ne-eqb next 0 (λ z. omega (arith, e, z)), lt-ltb (i + 1) next (omega (arith, e)), le-leb next n (omega (arith, h, e))) refl
 
 first-of-requires : tie.Need-first-of-requires
 first-of-requires c κs = search needs
@@ -29,17 +28,14 @@ second-of-requires c κs = search needs
 add-if2 : tie.Need-add-if2
 add-if2 c = search needs
 
-add-result : tie.Need-add-result
-add-result c = search needs
-
 returns-2 : tie.Need-returns-2
 unfolding leadsOn
 returns-2 c =
     let f : tie.After-first-of = search in
     let e : tie.Else1 = search in
     let n : tie.After-second-of = search in
-    let s : tie.Then2 = search in
-    rw (← f .first-of .ensures, lt-ltb _ _ (e .if1 .left), ← n .second-of .ensures) (next-one _ _ _ (s .if2 .taken))
+    let s : tie.Start = search in
+    rw (← f .first-of .ensures, lt-ltb _ _ (e .if1 .left), ← n .second-of .ensures) (next-one _ _ _ (s .pre) (c .if2 .taken))
 
 returns-3 : tie.Need-returns-3
 unfolding leadsOn
@@ -78,7 +74,6 @@ leads-on-spec =
     returns
     second-of-requires
     add-if2
-    add-result
     returns-2
     returns-3
     add-if4

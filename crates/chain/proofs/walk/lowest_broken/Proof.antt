@@ -1,4 +1,4 @@
--- `mesh::chain::lowest_broken` meets its contract: where the records are in order no chain is broken.
+-- `chain::walk::lowest_broken` meets its contract: where the records are in order no chain is broken.
 use mathlib.Core.Path.{sym}
 use denote.Ref.{now}
 use Rattle.chain.proofs.Chains.{none-broken}

@@ -1,4 +1,4 @@
--- `mesh::chain::lowest_walked` meets its contract. In the walk of a cell's chain, what is left of it ends where the whole does; no cell passed has a broken chain.
+-- `chain::walk::lowest_walked` meets its contract. In the walk of a cell's chain, what is left of it ends where the whole does; no cell passed has a broken chain.
 use mathlib.Core.Path.{_≡_, refl, sym, _∙_, ap}
 use mathlib.Core.Bool.{Bool, true, not}
 use mathlib.Core.Logic.{⊎-elim}

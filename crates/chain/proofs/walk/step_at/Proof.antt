@@ -1,4 +1,4 @@
--- `mesh::chain::step_at` meets its contract.
+-- `chain::walk::step_at` meets its contract.
 use borrow.Author.Tests.{le-leb, lt-leb, lt-ltb, le-ltb}
 use Rattle.chain.specs.Chains.{stepOf}
 use borrow.Author.Needs.{needs}

@@ -1,4 +1,4 @@
--- `mesh::Vec3::add` meets its contract.
+-- `vector::Vec3::add` meets its contract.
 use mathlib.Core.Path.{refl}
 use Rattle.vector.specs.Vector.{sum}
 use Rattle.vector.proofs.Vec3.add.Statement.{statement}

@@ -1,4 +1,4 @@
--- `mesh::Vec3::div` meets its contract.
+-- `vector::Vec3::div` meets its contract.
 use mathlib.Core.Path.{refl}
 use Rattle.vector.specs.Vector.{quotient}
 use Rattle.vector.proofs.Vec3.div.Statement.{statement}

@@ -1,4 +1,4 @@
--- `mesh::Vec3::dot` meets its contract.
+-- `vector::Vec3::dot` meets its contract.
 use mathlib.Core.Path.{refl}
 use Rattle.vector.specs.Vector.{dot}
 use Rattle.vector.proofs.Vec3.dot.Statement.{statement}

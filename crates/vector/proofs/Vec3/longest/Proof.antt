@@ -1,4 +1,4 @@
--- `mesh::Vec3::longest` meets its contract.
+-- `vector::Vec3::longest` meets its contract.
 use mathlib.Core.Path.{_∙_}
 use Rattle.vector.specs.Vector.{longest}
 use borrow.Author.Needs.{needs}

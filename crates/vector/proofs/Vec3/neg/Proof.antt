@@ -1,4 +1,4 @@
--- `mesh::Vec3::neg` meets its contract.
+-- `vector::Vec3::neg` meets its contract.
 use mathlib.Core.Path.{refl}
 use Rattle.vector.specs.Vector.{negation}
 use Rattle.vector.proofs.Vec3.neg.Statement.{statement}

@@ -1,4 +1,4 @@
--- `mesh::Vec3::norm` meets its contract.
+-- `vector::Vec3::norm` meets its contract.
 use borrow.Author.Needs.{needs}
 use Rattle.vector.proofs.Vec3.norm.Statement.{statement}
 use Rattle.vector.proofs.Vec3.norm.Tie as tie

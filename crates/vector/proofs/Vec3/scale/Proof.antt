@@ -1,4 +1,4 @@
--- `mesh::Vec3::scale` meets its contract.
+-- `vector::Vec3::scale` meets its contract.
 use mathlib.Core.Path.{refl}
 use Rattle.vector.specs.Vector.{scaled}
 use Rattle.vector.proofs.Vec3.scale.Statement.{statement}

@@ -1,4 +1,4 @@
--- `mesh::Vec3::sub` meets its contract.
+-- `vector::Vec3::sub` meets its contract.
 use mathlib.Core.Path.{refl}
 use Rattle.vector.specs.Vector.{difference}
 use Rattle.vector.proofs.Vec3.sub.Statement.{statement}

@@ -1,4 +1,4 @@
--- `mesh::inner::put_vector` meets its contract.
+-- `vector::inner::put_vector` meets its contract.
 use native.Mathlib.Omega.{arith}
 use lib.ListN.{length-set}
 use borrow.Author.Needs.{needs}

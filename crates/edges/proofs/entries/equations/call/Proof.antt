@@ -1,4 +1,4 @@
--- `edges::entries::stencil::call` is safe: the parts of the outputs have the lengths that are asked for. Assumes nothing.
+-- `edges::entries::equations::call` is safe: the parts of the outputs have the lengths that are asked for. Assumes nothing.
 use mathlib.Core.Path.{sym}
 use lib.Seq.{length-take-le}
 use borrow.Author.Needs.{needs}

@@ -1,4 +1,4 @@
--- `replay::calls::stencil::agrees` is safe: the parts of the outputs have the lengths that are asked for. Assumes nothing.
+-- `replay::calls::equations::agrees` is safe: the parts of the outputs have the lengths that are asked for. Assumes nothing.
 use mathlib.Core.Path.{sym}
 use lib.Seq.{length-take-le}
 use borrow.Author.Needs.{needs}

@@ -1,4 +1,4 @@
--- `stencil::add_closings` meets its contract.
+-- `stencil::inner::build::add_closings` meets its contract.
 use borrow.Author.Needs.{needs}
 use mathlib.Core.Path.{refl, sym, _∙_, ap}
 use Prim.Native.Nat.{ℕ}

@@ -1,4 +1,4 @@
--- `stencil::add_faces` meets its contract.
+-- `stencil::inner::build::add_faces` meets its contract.
 use borrow.Author.Needs.{needs}
 use mathlib.Core.Path.{refl, sym, _∙_, ap}
 use Prim.Native.Nat.{ℕ}

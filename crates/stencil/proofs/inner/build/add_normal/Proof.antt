@@ -1,4 +1,4 @@
--- `stencil::add_normal` meets its contract.
+-- `stencil::inner::build::add_normal` meets its contract.
 use borrow.Author.Needs.{needs}
 use Rattle.stencil.specs.Building.{told}
 use Rattle.stencil.specs.Cell.{addNormal}

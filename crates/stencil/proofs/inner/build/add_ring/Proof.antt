@@ -1,4 +1,4 @@
--- `stencil::add_ring` meets its contract.
+-- `stencil::inner::build::add_ring` meets its contract.
 use borrow.Author.Needs.{needs}
 use mathlib.Core.Path.{sym, _∙_}
 use Prim.Native.Nat.{ℕ, _-_}

@@ -1,4 +1,4 @@
--- `stencil::add_ring_cell` meets its contract.
+-- `stencil::inner::build::add_ring_cell` meets its contract.
 use native.Mathlib.Omega.{arith}
 use borrow.Author.Needs.{needs}
 use Rattle.stencil.specs.Building.{told}

@@ -1,4 +1,4 @@
--- `stencil::append` meets its contract.
+-- `stencil::inner::build::append` meets its contract.
 use borrow.Author.Tests.{lt-ltb, le-ltb}
 use borrow.Author.Needs.{needs}
 use Rattle.stencil.specs.Building.{push, told}

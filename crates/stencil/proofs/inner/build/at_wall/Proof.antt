@@ -1,4 +1,4 @@
--- `stencil::at_wall` meets its contract.
+-- `stencil::inner::build::at_wall` meets its contract.
 use borrow.Author.Needs.{needs}
 use Rattle.stencil.specs.Cell.{wall}
 use Rattle.stencil.proofs.inner.build.at_wall.Statement.{statement}

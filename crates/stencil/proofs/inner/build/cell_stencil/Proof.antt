@@ -1,4 +1,4 @@
--- `stencil::cell_stencil` meets its contract.
+-- `stencil::inner::build::cell_stencil` meets its contract.
 use borrow.Author.Tests.{eq-eqb, ne-eqb}
 use mathlib.Core.Path.{_∙_}
 use denote.Ref.{now}

@@ -1,4 +1,4 @@
--- `stencil::end_chain` meets its contract.
+-- `stencil::inner::build::end_chain` meets its contract.
 use borrow.Author.Tests.{lt-ltb, le-ltb}
 use borrow.Author.Needs.{needs}
 use Rattle.stencil.specs.Stencil.{endedAt}

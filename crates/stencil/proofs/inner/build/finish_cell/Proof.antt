@@ -1,4 +1,4 @@
--- `stencil::finish_cell` meets its contract.
+-- `stencil::inner::build::finish_cell` meets its contract.
 use denote.Ref.{now}
 use borrow.Author.Needs.{needs}
 use Rattle.stencil.specs.Lent.{Lent, lent}

@@ -1,4 +1,4 @@
--- `stencil::least_squares_stencil` meets its contract.
+-- `stencil::inner::build::least_squares_stencil` meets its contract.
 use borrow.Author.Needs.{needs, scaled-fits}
 use mathlib.Core.Path.{refl, sym, _∙_}
 use Prim.Native.Nat.{_-_, _<_, _≤_}

@@ -1,4 +1,4 @@
--- the cell across the face is there: by the link, by the neighbour, and the owner
+-- `stencil::inner::build::offer_at` meets its contract: the cell across the face is there, by the link or as the neighbour, and the owner is.
 use Prim.Native.Nat.{_-_, _<_}
 use mathlib.Core.Path.{sym, _∙_}
 use native.Mathlib.Omega.{arith}

@@ -1,4 +1,4 @@
--- `stencil::put_nine` meets its contract.
+-- `stencil::inner::build::put_nine` meets its contract.
 use native.Mathlib.Omega.{arith}
 use lib.ListN.{length-set}
 use mathlib.Core.Path.{refl}

@@ -1,4 +1,4 @@
--- `stencil::start_of` meets its contract.
+-- `stencil::inner::build::start_of` meets its contract.
 use borrow.Author.Tests.{lt-ltb, le-ltb}
 use borrow.Author.Needs.{needs}
 use Rattle.stencil.specs.Stencil.{startOf}

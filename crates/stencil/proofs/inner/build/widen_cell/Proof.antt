@@ -1,4 +1,4 @@
--- `stencil::widen_cell` meets its contract.
+-- `stencil::inner::build::widen_cell` meets its contract.
 use mathlib.Core.Path.{_∙_}
 use denote.Ref.{now}
 use borrow.Author.Needs.{needs}

@@ -1,4 +1,4 @@
--- `mesh::contains` meets its contract.
+-- `stencil::inner::ring::contains` meets its contract.
 use borrow.Author.Tests.{eq-eqb, ne-eqb}
 use mathlib.Core.Path.{_≡_, refl, sym, _∙_}
 use native.Mathlib.Omega.{arith}

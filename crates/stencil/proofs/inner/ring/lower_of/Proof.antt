@@ -1,4 +1,4 @@
--- `mesh::lower_of` meets its contract.
+-- `stencil::inner::ring::lower_of` meets its contract.
 use borrow.Author.Tests.{le-leb, lt-leb, lt-ltb, le-ltb, eq-eqb, ne-eqb}
 use borrow.Author.Needs.{needs}
 use Rattle.stencil.specs.Ring.{lower, fresh}

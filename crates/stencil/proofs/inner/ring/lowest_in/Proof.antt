@@ -1,4 +1,4 @@
--- `mesh::lowest_in` meets its contract.
+-- `stencil::inner::ring::lowest_in` meets its contract.
 use mathlib.Core.Path.{_≡_, refl, sym, _∙_}
 use native.Mathlib.Omega.{arith}
 use lib.ListN.{length}

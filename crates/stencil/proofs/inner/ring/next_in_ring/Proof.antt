@@ -1,4 +1,4 @@
--- `mesh::next_in_ring` meets its contract.
+-- `stencil::inner::ring::next_in_ring` meets its contract.
 use mathlib.Core.Path.{_≡_, refl, sym, _∙_}
 use native.Mathlib.Omega.{arith}
 use lib.ListN.{length}

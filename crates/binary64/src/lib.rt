@@ -4,7 +4,6 @@ ghost use mathlib.Core.Path.{_≡_};
 ghost use Rattle.binary64.specs.Numbers.{isFinite, isUsable, isFar, magnitude, larger};
 ghost use Rattle.binary64.specs.Root.{root};
 
-mod parabola;
 mod root;
 
 // 2^-52.

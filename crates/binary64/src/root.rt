@@ -1,5 +1,5 @@
 // The square root of a number above zero: a guess in floating point and a test of it in floating point,
-// which about one number in 230 does not pass; for that one the significand as a whole number of 53 digits,
+// which about one number in 115 does not pass; for that one the significand as a whole number of 53 digits,
 // by an exact check of the guess, and digit by digit where the check does not pass.
 ghost use mathlib.Core.Path.{_≡_};
 ghost use mathlib.Core.Bool.{cond};
@@ -9,7 +9,6 @@ ghost use lib.Dec.{T};
 ghost use lib.Ieee.{binary64, fits, le, mul};
 ghost use Rattle.binary64.specs.Root.{nearestRoot};
 ghost use Rattle.binary64.specs.Significand.{Near, Start, RootBits, rest, margin};
-use crate::parabola;
 
 // The whole number nearest to the root of a * 2^52, two binary digits of the radicand and one of
 // the root a turn: q is the root so far, and rest what is left of the digits passed.
@@ -65,18 +64,17 @@ fn corrected(a: u64, h: u64) -> u64
     h + one_if(none + h < difference) - one_if(difference + h <= none)
 }
 
-// A number of 26 digits near the root of y, which is from 1 up to 4. Both go by their bit patterns.
+// A number of 26 digits near the root of y, which is from 1 up to 4, by the line of y's interval. Both go by their
+// bit patterns.
 fn start(bits: u64) -> u64
     requires { ⌜ 0x3ff0_0000_0000_0000 ≤ bits ⌝ ∗ ⌜ bits < 0x4010_0000_0000_0000 ⌝ }
     ensures { λ r. ⌜ Start r ⌝ }
 {
-    let y = f64::from_bits(bits);
-    let i = (bits >> 48) % 32;
-    let r = parabola::constant(i) + (parabola::linear(i) - parabola::square(i) * y) * y;
-    if r != r {
-        return 0x3ff0_0000_0000_0000;
-    }
-    f64::to_bits(r) % 0x10_0000_0000_0000 / 0x800_0000 * 0x800_0000 + 0x3ff0_0000_0000_0000
+    let i = ((bits - 0x3ff0_0000_0000_0000) >> 45) % 256;
+    let along = (bits >> 13) % 0x1_0000_0000;
+    let line = lines::inner::line(i);
+    let near = std::num::wrapping_add_u64(line, along * (line % 0x1_0000) / 8);
+    near % 0x10_0000_0000_0000 / 0x800_0000 * 0x800_0000 + 0x3ff0_0000_0000_0000
 }
 
 // A step of Halley's from s towards the root of y, which triples the digits.
@@ -115,13 +113,16 @@ fn quick(bits: u64) -> u64
     0
 }
 
-// A guess at the whole number nearest to the root of a * 2^odd * 2^52.
+// A guess at the whole number nearest to the root of a * 2^odd * 2^52. Half of a bit pattern, and a number, is
+// the pattern of a root within 4 parts in 100. `start` has one caller, so that the compiler puts it there.
 fn guess(a: u64, odd: u64) -> u64
     requires { ⌜ 2 ^ 52 ≤ a ⌝ ∗ ⌜ a < 2 ^ 53 ⌝ ∗ ⌜ odd < 2 ⌝ }
     ensures { λ r. ⌜ 2 ^ 52 ≤ r ⌝ ∗ ⌜ r < 2 ^ 53 ⌝ }
 {
     let bits = 0x3fe0_0000_0000_0000 + odd * 0x10_0000_0000_0000 + a;
-    let g = refined(f64::from_bits(start(bits)), f64::from_bits(bits));
+    let y = f64::from_bits(bits);
+    let half = f64::from_bits(bits / 2 + 0x1ff7_a3be_a91d_9b1b);
+    let g = refined(refined(refined(half, y), y), y);
     if g != g {
         return 0x10_0000_0000_0000;
     }

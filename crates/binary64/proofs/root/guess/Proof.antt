@@ -1,7 +1,6 @@
 -- `binary64::root::guess` meets its contract: the patterns that it makes are no NaN's. Assumes nothing.
 use native.Mathlib.Omega.{arith}
 use Rattle.binary64.proofs.Bits.{no-nan-bits, equal-no-nan}
-use Rattle.binary64.proofs.root.Placed.{start-most}
 use borrow.Author.Needs.{needs}
 use Rattle.binary64.proofs.root.guess.Statement.{statement}
 use Rattle.binary64.proofs.root.guess.Tie as tie
@@ -15,17 +14,23 @@ add-bits c = search needs
 add-bits-2 : tie.Need-add-bits-2
 add-bits-2 c = search needs
 
-start-requires : tie.Need-start-requires
-start-requires c κs = search needs
+float-from-bits-y : tie.Need-float-from-bits-y
+float-from-bits-y c = no-nan-bits _ (omega arith)
 
-float-from-bits-refined : tie.Need-float-from-bits-refined
-float-from-bits-refined c = no-nan-bits _ (start-most _ (c .start .ensures))
+add-half : tie.Need-add-half
+add-half c = search needs
 
-float-from-bits-refined-2 : tie.Need-float-from-bits-refined-2
-float-from-bits-refined-2 c = no-nan-bits _ (omega arith)
+float-from-bits-half : tie.Need-float-from-bits-half
+float-from-bits-half c = no-nan-bits _ (omega arith)
 
 refined-requires : tie.Need-refined-requires
 refined-requires c κs = search needs
+
+refined-requires-2 : tie.Need-refined-requires-2
+refined-requires-2 c κs = search needs
+
+refined-requires-3 : tie.Need-refined-requires-3
+refined-requires-3 c κs = search needs
 
 returns : tie.Need-returns
 returns c = search needs
@@ -46,10 +51,12 @@ guess-spec =
     mul-bits
     add-bits
     add-bits-2
-    start-requires
-    float-from-bits-refined
-    float-from-bits-refined-2
+    float-from-bits-y
+    add-half
+    float-from-bits-half
     refined-requires
+    refined-requires-2
+    refined-requires-3
     returns
     float-to-bits-result
     add-result

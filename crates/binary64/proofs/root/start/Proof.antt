@@ -1,28 +1,24 @@
 -- `binary64::root::start` meets its contract: the pattern that it makes has 26 digits after the exponent of 1. Assumes nothing.
+use Prim.Native.Nat.{_-_, _/_, _%_, _^_}
 use native.Mathlib.Omega.{arith}
-use Rattle.binary64.proofs.Bits.{no-nan-bits, equal-no-nan}
 use Rattle.binary64.proofs.root.Placed.{start-of}
+use Rattle.binary64.proofs.root.Squares.{small-product}
 use borrow.Author.Needs.{needs}
 use Rattle.binary64.proofs.root.start.Statement.{statement}
 use Rattle.binary64.proofs.root.start.Tie as tie
 
-float-from-bits-y : tie.Need-float-from-bits-y
-float-from-bits-y c = no-nan-bits _ (omega arith)
+sub-i : tie.Need-sub-i
+sub-i c = search needs
 
-constant-requires : tie.Need-constant-requires
-constant-requires c κs = search needs
+line-requires : tie.Need-line-requires
+line-requires c κs = search needs
 
-linear-requires : tie.Need-linear-requires
-linear-requires c κs = search needs
+mul-wrapping-add-u64 : tie.Need-mul-wrapping-add-u64
+mul-wrapping-add-u64 c =
+    omega (arith, small-product (c .before .args .bits / 8192 % 2 ^ 32) (c .line .result % 2 ^ 16) (2 ^ 32 - 1) (2 ^ 16 - 1) (omega arith) (omega arith))
 
-square-requires : tie.Need-square-requires
-square-requires c κs = search needs
-
-returns : tie.Need-returns
-returns c = start-of 0
-
-float-to-bits-result : tie.Need-float-to-bits-result
-float-to-bits-result c = equal-no-nan _ (c .if1 .left)
+wrapping-add-u64-requires : tie.Need-wrapping-add-u64-requires
+wrapping-add-u64-requires c κs = search needs
 
 mul-result : tie.Need-mul-result
 mul-result c = search needs
@@ -30,19 +26,17 @@ mul-result c = search needs
 add-result : tie.Need-add-result
 add-result c = search needs
 
-returns-2 : tie.Need-returns-2
-returns-2 c = start-of _
+returns : tie.Need-returns
+returns c = start-of _
 
 pub start-spec : {M : Type 1} → statement M
 start-spec =
     tie.close
     (tie.spec
-    float-from-bits-y
-    constant-requires
-    linear-requires
-    square-requires
-    returns
-    float-to-bits-result
+    sub-i
+    line-requires
+    mul-wrapping-add-u64
+    wrapping-add-u64-requires
     mul-result
     add-result
-    returns-2)
+    returns)

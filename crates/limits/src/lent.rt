@@ -38,7 +38,7 @@ pub struct Lent {
 
 // Two cells and three faces: face 0 joins the cells, and faces 1 and 2 are one-cell faces of cells
 // 0 and 1.
-pub fn pair() -> Lent {
+pub(crate) fn pair() -> Lent {
     Lent {
         counts: Counts {
             mesh: 7,
@@ -61,7 +61,7 @@ pub fn pair() -> Lent {
 // Four cells in a row and six faces: faces 1, 2 and 3 join the cells, and faces 0, 4 and 5 are
 // one-cell faces of cells 0, 3 and 2. Cells 0 to 3 have the face records 1 and 2, 3 and 4, 5 to 7,
 // and 8 and 9, and the neighbour records 1, 2 and 3, 4 and 5, and 6.
-pub fn row() -> Lent {
+pub(crate) fn row() -> Lent {
     Lent {
         counts: Counts {
             mesh: 7,
@@ -107,7 +107,7 @@ fn check_parts(
 }
 
 impl Lent {
-    pub fn checked(self) -> Answer {
+    pub(crate) fn checked(self) -> Answer {
         let n = self.lengths;
         let adjacency = self.adjacency;
         let heads = self.heads;
@@ -126,25 +126,25 @@ impl Lent {
         )
     }
 
-    pub fn with_dimension(mut self, dimension: usize) -> Lent {
+    pub(crate) fn with_dimension(mut self, dimension: usize) -> Lent {
         self.counts.dimension = dimension;
         self
     }
 
     // The number of the mesh itself.
-    pub fn with_mesh(mut self, mesh: u64) -> Lent {
+    pub(crate) fn with_mesh(mut self, mesh: u64) -> Lent {
         self.counts.mesh = mesh;
         self
     }
 
     // The number of the conditions.
-    pub fn with_number(mut self, number: u64) -> Lent {
+    pub(crate) fn with_number(mut self, number: u64) -> Lent {
         self.number = number;
         self
     }
 
     // How much of a slice is lent.
-    pub fn with_length(mut self, slice: usize, n: usize) -> Lent
+    pub(crate) fn with_length(mut self, slice: usize, n: usize) -> Lent
         requires { ⌜ slice < 8 ⌝ }
     {
         self.lengths[slice] = n;
@@ -152,7 +152,7 @@ impl Lent {
     }
 
     // So many face records, of those that there are.
-    pub fn with_facings(mut self, n: usize) -> Lent
+    pub(crate) fn with_facings(mut self, n: usize) -> Lent
         requires { ⌜ n ≤ 9 ⌝ }
     {
         self.counts.facings = n;
@@ -160,7 +160,7 @@ impl Lent {
         self
     }
 
-    pub fn with_borderings(mut self, n: usize) -> Lent
+    pub(crate) fn with_borderings(mut self, n: usize) -> Lent
         requires { ⌜ n ≤ 6 ⌝ }
     {
         self.counts.borderings = n;
@@ -168,7 +168,7 @@ impl Lent {
         self
     }
 
-    pub fn with_owner(mut self, face: usize, cell: usize) -> Lent
+    pub(crate) fn with_owner(mut self, face: usize, cell: usize) -> Lent
         requires { ⌜ face < 6 ⌝ }
     {
         self.adjacency[2 * face] = cell;
@@ -176,14 +176,14 @@ impl Lent {
     }
 
     // The neighbour as it is stored, a cell + 1.
-    pub fn with_neighbour(mut self, face: usize, stored: usize) -> Lent
+    pub(crate) fn with_neighbour(mut self, face: usize, stored: usize) -> Lent
         requires { ⌜ face < 6 ⌝ }
     {
         self.adjacency[2 * face + 1] = stored;
         self
     }
 
-    pub fn with_code(mut self, face: usize, code: usize) -> Lent
+    pub(crate) fn with_code(mut self, face: usize, code: usize) -> Lent
         requires { ⌜ face < 6 ⌝ }
     {
         self.codes[2 * face] = code;
@@ -191,7 +191,7 @@ impl Lent {
     }
 
     // The link's peer as it is stored, a face + 1.
-    pub fn with_peer(mut self, face: usize, stored: usize) -> Lent
+    pub(crate) fn with_peer(mut self, face: usize, stored: usize) -> Lent
         requires { ⌜ face < 6 ⌝ }
     {
         self.codes[2 * face + 1] = stored;
@@ -199,14 +199,14 @@ impl Lent {
     }
 
     // The first record of a cell's chain of faces.
-    pub fn with_first_face(mut self, cell: usize, r: usize) -> Lent
+    pub(crate) fn with_first_face(mut self, cell: usize, r: usize) -> Lent
         requires { ⌜ cell < 4 ⌝ }
     {
         self.heads[2 * cell] = r;
         self
     }
 
-    pub fn with_first_neighbour(mut self, cell: usize, r: usize) -> Lent
+    pub(crate) fn with_first_neighbour(mut self, cell: usize, r: usize) -> Lent
         requires { ⌜ cell < 4 ⌝ }
     {
         self.heads[2 * cell + 1] = r;
@@ -214,7 +214,7 @@ impl Lent {
     }
 
     // The face that a record names, counted from 0.
-    pub fn with_face(mut self, r: usize, face: usize) -> Lent
+    pub(crate) fn with_face(mut self, r: usize, face: usize) -> Lent
         requires { ⌜ (0 < r) × (r ≤ 9) ⌝ }
     {
         self.facing[2 * r - 2] = face;
@@ -222,21 +222,21 @@ impl Lent {
     }
 
     // The record that follows a face record.
-    pub fn with_next_face(mut self, r: usize, next: usize) -> Lent
+    pub(crate) fn with_next_face(mut self, r: usize, next: usize) -> Lent
         requires { ⌜ (0 < r) × (r ≤ 9) ⌝ }
     {
         self.facing[2 * r - 1] = next;
         self
     }
 
-    pub fn with_cell(mut self, r: usize, cell: usize) -> Lent
+    pub(crate) fn with_cell(mut self, r: usize, cell: usize) -> Lent
         requires { ⌜ (0 < r) × (r ≤ 6) ⌝ }
     {
         self.bordering[2 * r - 2] = cell;
         self
     }
 
-    pub fn with_next_neighbour(mut self, r: usize, next: usize) -> Lent
+    pub(crate) fn with_next_neighbour(mut self, r: usize, next: usize) -> Lent
         requires { ⌜ (0 < r) × (r ≤ 6) ⌝ }
     {
         self.bordering[2 * r - 1] = next;

@@ -34,7 +34,7 @@ fn counts_at(words: &[usize], at: usize) -> Counts {
     }
 }
 
-pub fn mesh_at(words: &[usize], at: usize) -> Mesh {
+pub(crate) fn mesh_at(words: &[usize], at: usize) -> Mesh {
     let counts = counts_at(words, at);
     let adjacency = skip(words, at, 6);
     let geometry = after(words, adjacency);
@@ -55,7 +55,7 @@ pub fn mesh_at(words: &[usize], at: usize) -> Mesh {
     }
 }
 
-pub fn conditions_at(words: &[usize], at: usize) -> Conditions {
+pub(crate) fn conditions_at(words: &[usize], at: usize) -> Conditions {
     let codes = skip(words, at, 1);
     let values = after(words, codes);
     Conditions {

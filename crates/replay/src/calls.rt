@@ -28,7 +28,7 @@ pub struct Call {
     pub at: usize,
 }
 
-pub fn compared(agrees: bool) -> Outcome {
+pub(crate) fn compared(agrees: bool) -> Outcome {
     if agrees {
         return Outcome::Agrees;
     }
@@ -103,7 +103,7 @@ fn agrees(words: &[usize], floats: &[f64], c: Call, v: Verdict) -> bool {
 }
 
 // Makes a call whose words go up to `end`, where there is room for its outputs.
-pub fn made(words: &[usize], floats: &[f64], c: Call, end: usize) -> Outcome {
+pub(crate) fn made(words: &[usize], floats: &[f64], c: Call, end: usize) -> Outcome {
     let n = outputs(c.kind);
     let v = verdict_at(words, after_lent(words, c.kind, c.at), n);
     if v.place(words, n) != end || !v.is_known() {

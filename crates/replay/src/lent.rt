@@ -34,7 +34,7 @@ fn after_fields(words: &[usize], from: usize, k: usize) -> usize {
 }
 
 // The field that follows k others, which stand from a place on.
-pub fn field_at(words: &[usize], from: usize, k: usize) -> Field {
+pub(crate) fn field_at(words: &[usize], from: usize, k: usize) -> Field {
     let at = after_fields(words, from, k);
     Field {
         number: word(words, at, 0) as u64,
@@ -43,12 +43,12 @@ pub fn field_at(words: &[usize], from: usize, k: usize) -> Field {
 }
 
 // The field of the call at a place that follows k others; nothing stands before them.
-pub fn field_of(words: &[usize], at: usize, k: usize) -> Field {
+pub(crate) fn field_of(words: &[usize], at: usize, k: usize) -> Field {
     field_at(words, skip(words, at, 1), k)
 }
 
 // The stencil of the call at a place. Its starts stand as a field does.
-pub fn stencil_of(words: &[usize], at: usize) -> Stencil {
+pub(crate) fn stencil_of(words: &[usize], at: usize) -> Stencil {
     let starts = field_of(words, at, 0);
     let equations = after(words, starts.values);
     let weights = after(words, equations);
@@ -65,7 +65,7 @@ pub fn stencil_of(words: &[usize], at: usize) -> Stencil {
 }
 
 // The place after what the call at a place is lent.
-pub fn after_lent(words: &[usize], kind: usize, at: usize) -> usize {
+pub(crate) fn after_lent(words: &[usize], kind: usize, at: usize) -> usize {
     let first = skip(words, at, 1);
     match kind {
         16 => after(words, first),

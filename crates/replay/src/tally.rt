@@ -45,7 +45,7 @@ fn print_kind(tally: &Tally, kind: usize, name: &[u8]) {
     io::write_all(STDOUT_FILENO, b" differ\n");
 }
 
-pub fn print_tally(tally: &Tally) {
+pub(crate) fn print_tally(tally: &Tally) {
     print_kind(tally, ROOTS, b"roots");
     print_kind(tally, 16, b"momentum_inverse_diagonal");
     print_kind(tally, 17, b"least_squares_stencil");
@@ -68,7 +68,7 @@ fn count(tally: &mut Tally, i: usize) {
 
 // Tallies an outcome, and writes the line where a different or a broken one starts. Answers
 // whether it is not broken.
-pub fn tallied(tally: &mut Tally, kind: usize, line: u64, o: Outcome) -> bool {
+pub(crate) fn tallied(tally: &mut Tally, kind: usize, line: u64, o: Outcome) -> bool {
     match o {
         Outcome::Agrees => count(tally, place(kind)),
         Outcome::Differs => {

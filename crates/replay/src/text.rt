@@ -103,7 +103,7 @@ fn step(
 }
 
 // The first n bytes of the text, or all where it has no more.
-pub fn head(text: &[u8], n: usize) -> &[u8] {
+pub(crate) fn head(text: &[u8], n: usize) -> &[u8] {
     if n <= text.len() {
         return &text[..n];
     }
@@ -112,7 +112,7 @@ pub fn head(text: &[u8], n: usize) -> &[u8] {
 
 // Reads every line, up to the first that is broken. Answers how many words there are, or NOWHERE
 // after a broken line, whose number it writes. A line takes a byte or more.
-pub fn read(
+pub(crate) fn read(
     text: &[u8],
     words: &mut [usize; WORDS],
     floats: &mut [f64; WORDS],

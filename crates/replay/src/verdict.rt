@@ -22,7 +22,7 @@ pub struct Verdict {
 }
 
 // Of a call with so many outputs.
-pub fn verdict_at(words: &[usize], lengths: usize, count: usize) -> Verdict {
+pub(crate) fn verdict_at(words: &[usize], lengths: usize, count: usize) -> Verdict {
     let at = skip(words, lengths, count);
     let indices = skip(words, at, 2);
     Verdict {
@@ -45,7 +45,7 @@ fn is_among(slice: &[usize], n: usize) -> bool {
 
 impl Verdict {
     // Whether the list says one of the three things of the outputs.
-    pub fn is_known(self) -> bool {
+    pub(crate) fn is_known(self) -> bool {
         self.held <= 2 && (self.answer == 0) == (self.held == 0)
     }
 
@@ -74,7 +74,7 @@ impl Verdict {
     }
 
     // The place of the numbers of the output k, or after them all where k is how many there are.
-    pub fn place(self, words: &[usize], k: usize) -> usize {
+    pub(crate) fn place(self, words: &[usize], k: usize) -> usize {
         let mut at = self.outputs;
         let mut i = 0;
         while i < k {
@@ -85,7 +85,7 @@ impl Verdict {
     }
 
     // The length of the output k, or 0 where there is no room for it.
-    pub fn length(self, words: &[usize], k: usize) -> usize
+    pub(crate) fn length(self, words: &[usize], k: usize) -> usize
         ensures { λ r. ⌜ r ≤ 1024 ⌝ }
     {
         let n = word(words, self.lengths, k);
@@ -95,7 +95,7 @@ impl Verdict {
         n
     }
 
-    pub fn is_right(self, words: &[usize], answer: Answer) -> bool {
+    pub(crate) fn is_right(self, words: &[usize], answer: Answer) -> bool {
         match answer {
             Answer::Accepted => self.answer == 0,
             Answer::Refused(number, index) => {
@@ -105,13 +105,13 @@ impl Verdict {
     }
 
     // Whether the output k, of whole numbers, is right.
-    pub fn has_numbers(self, words: &[usize], k: usize, out: &[usize; ROOM]) -> bool {
+    pub(crate) fn has_numbers(self, words: &[usize], k: usize, out: &[usize; ROOM]) -> bool {
         let n = self.length(words, k);
         let expected = part(words, self.place(words, k), self.listed(n));
         pattern::inner::same_numbers(out, n, expected, self.rest())
     }
 
-    pub fn has_reals(self, words: &[usize], k: usize, out: &[f64; ROOM]) -> bool {
+    pub(crate) fn has_reals(self, words: &[usize], k: usize, out: &[f64; ROOM]) -> bool {
         let n = self.length(words, k);
         let expected = part(words, self.place(words, k), self.listed(n));
         pattern::inner::same_reals(out, n, expected, self.rest())

@@ -130,7 +130,7 @@ fn step(words: &[usize], floats: &[f64], lines: &[u64], w: Walk, tally: &mut Tal
 
 // Walks over every block, up to the first that is broken. Answers whether none is. A block takes a
 // word or more.
-pub fn walked(words: &[usize], floats: &[f64], lines: &[u64], tally: &mut Tally) -> bool {
+pub(crate) fn walked(words: &[usize], floats: &[f64], lines: &[u64], tally: &mut Tally) -> bool {
     let mut w = Walk {
         at: 0,
         mesh: NOWHERE,

@@ -2,7 +2,7 @@
 use crate::NOWHERE;
 
 // The word that stands k after a place, or 0 where there is none.
-pub fn word(words: &[usize], at: usize, k: usize) -> usize {
+pub(crate) fn word(words: &[usize], at: usize, k: usize) -> usize {
     if at >= words.len() {
         return 0;
     }
@@ -13,7 +13,7 @@ pub fn word(words: &[usize], at: usize, k: usize) -> usize {
 }
 
 // The place k after another, which may be the end of the words.
-pub fn skip(words: &[usize], at: usize, k: usize) -> usize {
+pub(crate) fn skip(words: &[usize], at: usize, k: usize) -> usize {
     if at > words.len() {
         return NOWHERE;
     }
@@ -24,7 +24,7 @@ pub fn skip(words: &[usize], at: usize, k: usize) -> usize {
 }
 
 // The place after a slice, whose length stands at `at`.
-pub fn after(words: &[usize], at: usize) -> usize {
+pub(crate) fn after(words: &[usize], at: usize) -> usize {
     if at < words.len() {
         return skip(words, skip(words, at, 1), words[at]);
     }
@@ -32,7 +32,7 @@ pub fn after(words: &[usize], at: usize) -> usize {
 }
 
 // The n words from a place on, or none.
-pub fn part(words: &[usize], at: usize, n: usize) -> &[usize] {
+pub(crate) fn part(words: &[usize], at: usize, n: usize) -> &[usize] {
     if at > words.len() {
         return &words[..0];
     }
@@ -43,7 +43,7 @@ pub fn part(words: &[usize], at: usize, n: usize) -> &[usize] {
     &words[at..end]
 }
 
-pub fn float_part(floats: &[f64], at: usize, n: usize) -> &[f64] {
+pub(crate) fn float_part(floats: &[f64], at: usize, n: usize) -> &[f64] {
     if at > floats.len() {
         return &floats[..0];
     }
@@ -55,11 +55,11 @@ pub fn float_part(floats: &[f64], at: usize, n: usize) -> &[f64] {
 }
 
 // A slice of whole numbers, whose length stands at `at`.
-pub fn numbers(words: &[usize], at: usize) -> &[usize] {
+pub(crate) fn numbers(words: &[usize], at: usize) -> &[usize] {
     part(words, skip(words, at, 1), word(words, at, 0))
 }
 
 // A slice of floats, whose length stands at `at` among the words.
-pub fn reals<'a>(words: &[usize], floats: &'a [f64], at: usize) -> &'a [f64] {
+pub(crate) fn reals<'a>(words: &[usize], floats: &'a [f64], at: usize) -> &'a [f64] {
     float_part(floats, skip(words, at, 1), word(words, at, 0))
 }

@@ -10,7 +10,7 @@ pub enum Line {
 }
 
 // The patterns that a line's text holds.
-pub fn patterns(text: &[u8]) -> Line
+pub(crate) fn patterns(text: &[u8]) -> Line
     ensures { λ r. ⌜ Holds (now (text .entry)) r ⌝ }
 {
     if text.len() != 34 {

@@ -18,7 +18,7 @@ use mesh::Counts;
 
 const KIND: usize = 20;
 
-pub fn call(
+pub(crate) fn call(
     counts: Counts,
     n: &[usize; SLICES],
     m: &[u64; SLICES],
@@ -47,7 +47,7 @@ fn within_arithmetic() {
     change::float(KIND, b"centre of face 3 its cell's", GEOMETRY, 28, 0.5);
 }
 
-pub fn cases() {
+pub(crate) fn cases() {
     change::nothing(KIND, b"as it stands");
     change::float(
         KIND,

@@ -61,7 +61,7 @@ fn counts() -> Counts {
 }
 
 // The case that every entry accepts, with room for one equation record more than its stencil has.
-pub fn base() -> Case {
+pub(crate) fn base() -> Case {
     let mut whole = [0; WHOLES];
     let mut floats = [0.0; FLOATS];
     table::whole(&mut whole);
@@ -77,13 +77,13 @@ pub fn base() -> Case {
 }
 
 impl Case {
-    pub fn with_dimension(mut self, n: usize) -> Case {
+    pub(crate) fn with_dimension(mut self, n: usize) -> Case {
         self.counts.dimension = n;
         self
     }
 
     // Room for n equation records.
-    pub fn with_records(mut self, n: usize) -> Case
+    pub(crate) fn with_records(mut self, n: usize) -> Case
         requires { ⌜ n ≤ 7 ⌝ }
     {
         self.records = n;
@@ -92,14 +92,14 @@ impl Case {
         self
     }
 
-    pub fn with_length(mut self, slice: usize, n: usize) -> Case
+    pub(crate) fn with_length(mut self, slice: usize, n: usize) -> Case
         requires { ⌜ slice < 25 ⌝ }
     {
         self.lengths[slice] = n;
         self
     }
 
-    pub fn with_number(mut self, slice: usize, n: u64) -> Case
+    pub(crate) fn with_number(mut self, slice: usize, n: u64) -> Case
         requires { ⌜ slice < 25 ⌝ }
     {
         self.numbers[slice] = n;
@@ -107,7 +107,7 @@ impl Case {
     }
 
     // Number i of a slice of whole numbers is n.
-    pub fn with_whole(mut self, slice: usize, i: usize, n: usize) -> Case
+    pub(crate) fn with_whole(mut self, slice: usize, i: usize, n: usize) -> Case
         requires { ⌜ i < 64 ⌝ }
     {
         let at = start(slice) + i;
@@ -118,7 +118,7 @@ impl Case {
     }
 
     // Number i of a slice of floats is x.
-    pub fn with_float(mut self, slice: usize, i: usize, x: f64) -> Case
+    pub(crate) fn with_float(mut self, slice: usize, i: usize, x: f64) -> Case
         requires { ⌜ i < 64 ⌝ }
     {
         let at = start(slice) + i;

@@ -16,7 +16,7 @@ use mesh::Counts;
 
 const KIND: usize = 19;
 
-pub fn call(
+pub(crate) fn call(
     counts: Counts,
     n: &[usize; SLICES],
     m: &[u64; SLICES],
@@ -35,7 +35,7 @@ pub fn call(
     )
 }
 
-pub fn cases() {
+pub(crate) fn cases() {
     change::nothing(KIND, b"as it stands");
     change::float(KIND, b"centre distance 2^-25", PLACES, 4, FARTHER);
     change::dimension(KIND, b"dimension 4", 4);

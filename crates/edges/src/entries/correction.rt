@@ -17,7 +17,7 @@ use mesh::Counts;
 
 const KIND: usize = 22;
 
-pub fn call(
+pub(crate) fn call(
     counts: Counts,
     n: &[usize; SLICES],
     m: &[u64; SLICES],
@@ -54,7 +54,7 @@ fn within_arithmetic() {
     change::whole(KIND, b"no condition at face 4", CODES, 8, 0);
 }
 
-pub fn cases() {
+pub(crate) fn cases() {
     change::nothing(KIND, b"as it stands");
     change::whole(KIND, b"code 1 at linked face 1", CODES, 2, 1);
     change::dimension(KIND, b"dimension 4", 4);

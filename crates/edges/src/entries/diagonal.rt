@@ -10,11 +10,16 @@ use mesh::Counts;
 
 const KIND: usize = 16;
 
-pub fn call(counts: Counts, n: &[usize; SLICES], x: &[f64; FLOATS], out: &mut [f64]) -> Answer {
+pub(crate) fn call(
+    counts: Counts,
+    n: &[usize; SLICES],
+    x: &[f64; FLOATS],
+    out: &mut [f64],
+) -> Answer {
     simple::momentum_inverse_diagonal(counts, float(x, n, DIAGONAL), out)
 }
 
-pub fn cases() {
+pub(crate) fn cases() {
     change::nothing(KIND, b"as it stands");
     change::float(KIND, b"diagonal 2^-1074", DIAGONAL, 0, 5.0e-324);
     change::dimension(KIND, b"dimension 4", 4);

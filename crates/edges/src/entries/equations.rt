@@ -27,7 +27,7 @@ use mesh::Counts;
 
 const KIND: usize = 17;
 
-pub fn print(starts: &[usize], equations: &[usize], weights: &[f64], inverses: &[f64]) {
+pub(crate) fn print(starts: &[usize], equations: &[usize], weights: &[f64], inverses: &[f64]) {
     output::print_whole(starts);
     output::print_whole(equations);
     output::print_floats(weights);
@@ -35,7 +35,12 @@ pub fn print(starts: &[usize], equations: &[usize], weights: &[f64], inverses: &
 }
 
 // What the outputs hold after a refusal.
-pub fn left(starts: &[usize], equations: &[usize], weights: &[f64], inverses: &[f64]) -> usize {
+pub(crate) fn left(
+    starts: &[usize],
+    equations: &[usize],
+    weights: &[f64],
+    inverses: &[f64],
+) -> usize {
     output::held_whole(starts)
         & output::held_whole(equations)
         & output::held(weights)
@@ -116,7 +121,7 @@ fn call(
     tell(answer, &starts, &equations, i, &weights, j, &inverses);
 }
 
-pub fn show(
+pub(crate) fn show(
     counts: Counts,
     records: usize,
     n: &[usize; SLICES],
@@ -160,7 +165,7 @@ fn within_arithmetic() {
     change::whole(KIND, b"no condition at face 3", CODES, 6, 0);
 }
 
-pub fn cases() {
+pub(crate) fn cases() {
     change::nothing(KIND, b"as it stands");
     change::whole(KIND, b"zero gradient at face 3", CODES, 6, 2);
     change::records(KIND, b"room for 6 records", 6);

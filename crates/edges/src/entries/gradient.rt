@@ -15,7 +15,7 @@ use mesh::Counts;
 
 const KIND: usize = 18;
 
-pub fn call(
+pub(crate) fn call(
     counts: Counts,
     records: usize,
     n: &[usize; SLICES],
@@ -38,7 +38,7 @@ pub fn call(
     )
 }
 
-pub fn cases() {
+pub(crate) fn cases() {
     change::nothing(KIND, b"as it stands");
     change::dimension(KIND, b"dimension 4", 4);
     change::length(KIND, b"pressure one short", PRESSURE, 1);

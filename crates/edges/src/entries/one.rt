@@ -70,7 +70,7 @@ fn show_call(
     }
 }
 
-pub fn show(
+pub(crate) fn show(
     kind: usize,
     counts: Counts,
     records: usize,

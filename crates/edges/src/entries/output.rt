@@ -7,22 +7,22 @@ pub const FILL: usize = 0xa5a5_a5a5_a5a5_a5a5;
 // Room for an output.
 pub const ROOM: usize = 32;
 
-pub fn fill() -> f64 {
+pub(crate) fn fill() -> f64 {
     pattern::value(FILL as u64)
 }
 
-pub fn print_whole(out: &[usize]) {
+pub(crate) fn print_whole(out: &[usize]) {
     print::text(b",");
     print::words(out);
 }
 
-pub fn print_floats(out: &[f64]) {
+pub(crate) fn print_floats(out: &[f64]) {
     print::text(b",");
     print::floats(out);
 }
 
 // What a refusal left in the outputs: what each holds, by `held` and `held_whole`, joined by `&`.
-pub fn print_left(left: usize) {
+pub(crate) fn print_left(left: usize) {
     match left {
         1 => print::text(b", untouched"),
         2 => print::text(b", cleared"),
@@ -58,10 +58,10 @@ fn either(untouched: bool, cleared: bool) -> usize {
 }
 
 // 1 where every number is as before the call, 2 where every number is 0.
-pub fn held_whole(out: &[usize]) -> usize {
+pub(crate) fn held_whole(out: &[usize]) -> usize {
     either(all_whole(out, FILL), all_whole(out, 0))
 }
 
-pub fn held(out: &[f64]) -> usize {
+pub(crate) fn held(out: &[f64]) -> usize {
     either(all_floats(out, FILL), all_floats(out, 0))
 }

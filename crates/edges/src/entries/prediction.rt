@@ -22,7 +22,7 @@ use mesh::Counts;
 
 const KIND: usize = 21;
 
-pub fn call(
+pub(crate) fn call(
     counts: Counts,
     records: usize,
     n: &[usize; SLICES],
@@ -62,7 +62,7 @@ fn within_arithmetic() {
     change::float(KIND, b"area of face 0 1e308", GEOMETRY, 3, 1.0e308);
 }
 
-pub fn cases() {
+pub(crate) fn cases() {
     change::nothing(KIND, b"as it stands");
     change::dimension(KIND, b"dimension 4", 4);
     change::length(KIND, b"walls one short", WALLS, 6);

@@ -61,7 +61,7 @@ pub const FLOATS: usize = 252;
 
 // The place of a slice's first number in its table: that of whole numbers has 16 in a row, that of
 // floats 9.
-pub fn start(slice: usize) -> usize
+pub(crate) fn start(slice: usize) -> usize
     ensures { λ r. ⌜ r < 252 ⌝ }
 {
     match slice {
@@ -90,7 +90,7 @@ pub fn start(slice: usize) -> usize
 }
 
 // The n numbers from a place on, or none where there are fewer.
-pub fn part(s: &[usize], at: usize, n: usize) -> &[usize] {
+pub(crate) fn part(s: &[usize], at: usize, n: usize) -> &[usize] {
     if at > s.len() {
         return &s[..0];
     }
@@ -101,7 +101,7 @@ pub fn part(s: &[usize], at: usize, n: usize) -> &[usize] {
     &s[at..end]
 }
 
-pub fn float_part(s: &[f64], at: usize, n: usize) -> &[f64] {
+pub(crate) fn float_part(s: &[f64], at: usize, n: usize) -> &[f64] {
     if at > s.len() {
         return &s[..0];
     }
@@ -113,13 +113,13 @@ pub fn float_part(s: &[f64], at: usize, n: usize) -> &[f64] {
 }
 
 // A slice as it is lent, by the lengths of the slices.
-pub fn whole<'a>(w: &'a [usize; WHOLES], n: &[usize; SLICES], slice: usize) -> &'a [usize]
+pub(crate) fn whole<'a>(w: &'a [usize; WHOLES], n: &[usize; SLICES], slice: usize) -> &'a [usize]
     requires { ⌜ slice < 25 ⌝ }
 {
     part(w, start(slice), n[slice])
 }
 
-pub fn float<'a>(x: &'a [f64; FLOATS], n: &[usize; SLICES], slice: usize) -> &'a [f64]
+pub(crate) fn float<'a>(x: &'a [f64; FLOATS], n: &[usize; SLICES], slice: usize) -> &'a [f64]
     requires { ⌜ slice < 25 ⌝ }
 {
     float_part(x, start(slice), n[slice])

@@ -48,7 +48,7 @@ const FLOAT: [[f64; 9]; 28] = [
 ];
 
 // The rows one after another.
-pub fn whole(to: &mut [usize; WHOLES]) {
+pub(crate) fn whole(to: &mut [usize; WHOLES]) {
     let rows = WHOLE;
     let mut k = 0;
     while k < WHOLES {
@@ -59,7 +59,7 @@ pub fn whole(to: &mut [usize; WHOLES]) {
     }
 }
 
-pub fn floats(to: &mut [f64; FLOATS]) {
+pub(crate) fn floats(to: &mut [f64; FLOATS]) {
     let rows = FLOAT;
     let mut k = 0;
     while k < FLOATS {

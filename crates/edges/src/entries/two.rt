@@ -68,7 +68,7 @@ fn second_of(kind: usize) -> usize
     }
 }
 
-pub fn show(
+pub(crate) fn show(
     kind: usize,
     counts: Counts,
     records: usize,

@@ -183,7 +183,7 @@ fn call(
     );
 }
 
-pub fn show(
+pub(crate) fn show(
     counts: Counts,
     records: usize,
     n: &[usize; SLICES],
@@ -240,7 +240,7 @@ fn after_the_stencil() {
     change::float(KIND, b"volume of cell 1 0", PLACES, 7, 0.0);
 }
 
-pub fn cases() {
+pub(crate) fn cases() {
     change::nothing(KIND, b"as it stands");
     before_arithmetic();
     of_the_stencil();

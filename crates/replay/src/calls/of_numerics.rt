@@ -7,7 +7,7 @@ use crate::words::numbers;
 use crate::words::reals;
 use mesh::Answer;
 
-pub fn gradient(words: &[usize], floats: &[f64], c: Call, out: &mut [f64]) -> Answer {
+pub(crate) fn gradient(words: &[usize], floats: &[f64], c: Call, out: &mut [f64]) -> Answer {
     let m = c.mesh;
     let s = stencil_of(words, c.at);
     let pressure = field_at(words, s.fields, 0);
@@ -25,7 +25,7 @@ pub fn gradient(words: &[usize], floats: &[f64], c: Call, out: &mut [f64]) -> An
     )
 }
 
-pub fn outflow(words: &[usize], floats: &[f64], c: Call, out: &mut [f64]) -> Answer {
+pub(crate) fn outflow(words: &[usize], floats: &[f64], c: Call, out: &mut [f64]) -> Answer {
     let m = c.mesh;
     let flux = field_of(words, c.at, 0);
     numerics::integrated_divergence(

@@ -116,7 +116,7 @@ fn lent(n: usize) -> usize
 }
 
 // Whether the call agrees.
-pub fn agrees(words: &[usize], floats: &[f64], c: Call, v: Verdict) -> bool {
+pub(crate) fn agrees(words: &[usize], floats: &[f64], c: Call, v: Verdict) -> bool {
     let handed = gradient(words, floats, c, lent(v.length(words, 0)));
     let answer = handed.answer;
     let gradients = handed.gradients;

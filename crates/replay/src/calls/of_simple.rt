@@ -8,12 +8,12 @@ use crate::words::reals;
 use crate::words::skip;
 use mesh::Answer;
 
-pub fn diagonal(words: &[usize], floats: &[f64], c: Call, out: &mut [f64]) -> Answer {
+pub(crate) fn diagonal(words: &[usize], floats: &[f64], c: Call, out: &mut [f64]) -> Answer {
     let m = c.mesh;
     simple::momentum_inverse_diagonal(m.counts, reals(words, floats, skip(words, c.at, 1)), out)
 }
 
-pub fn coefficients(words: &[usize], floats: &[f64], c: Call, out: &mut [f64]) -> Answer {
+pub(crate) fn coefficients(words: &[usize], floats: &[f64], c: Call, out: &mut [f64]) -> Answer {
     let m = c.mesh;
     let responses = field_of(words, c.at, 0);
     simple::pressure_face_coefficients(
@@ -27,7 +27,7 @@ pub fn coefficients(words: &[usize], floats: &[f64], c: Call, out: &mut [f64]) -
     )
 }
 
-pub fn coefficients_with_boundary(
+pub(crate) fn coefficients_with_boundary(
     words: &[usize],
     floats: &[f64],
     c: Call,
@@ -50,7 +50,7 @@ pub fn coefficients_with_boundary(
     )
 }
 
-pub fn prediction(
+pub(crate) fn prediction(
     words: &[usize],
     floats: &[f64],
     c: Call,
@@ -87,7 +87,7 @@ pub fn prediction(
     )
 }
 
-pub fn flux(words: &[usize], floats: &[f64], c: Call, out: &mut [f64]) -> Answer {
+pub(crate) fn flux(words: &[usize], floats: &[f64], c: Call, out: &mut [f64]) -> Answer {
     let m = c.mesh;
     let k = c.conditions;
     let predicted = field_of(words, c.at, 0);
@@ -109,7 +109,7 @@ pub fn flux(words: &[usize], floats: &[f64], c: Call, out: &mut [f64]) -> Answer
     )
 }
 
-pub fn velocity(words: &[usize], floats: &[f64], c: Call, out: &mut [f64]) -> Answer {
+pub(crate) fn velocity(words: &[usize], floats: &[f64], c: Call, out: &mut [f64]) -> Answer {
     let m = c.mesh;
     let velocity = field_of(words, c.at, 0);
     let responses = field_of(words, c.at, 1);
@@ -126,7 +126,7 @@ pub fn velocity(words: &[usize], floats: &[f64], c: Call, out: &mut [f64]) -> An
     )
 }
 
-pub fn metrics(
+pub(crate) fn metrics(
     words: &[usize],
     floats: &[f64],
     c: Call,

@@ -83,7 +83,7 @@ enum juvandeer_answer {
     JUVANDEER_FACE = 4,
     /* a chain names a missing record, face or cell, or does not end; lowest cell */
     JUVANDEER_CHAIN = 5,
-    /* a link on a face with two cells, to itself, to no face, or not linked back; such a face */
+    /* a link on a face with two cells, to itself, to no face, or not linked back; lowest face */
     JUVANDEER_LINK = 6,
     /* centres, or a centre and a face, too near or not finitely far apart; face */
     JUVANDEER_DEGENERATE_DISTANCE = 7,

@@ -27,8 +27,7 @@ pub enum Place {
 pub struct Refusal {
     pub place: Place,
     pub number: u64,
-    /// The indices that are right: one, save for 6.
-    pub indices: Vec<usize>,
+    pub index: usize,
 }
 
 /// What a call is to answer, and with it what it is to leave in its outputs.
@@ -109,7 +108,7 @@ pub fn run(entry: Entry, lent: &Lent) -> Outcome {
                 Place::Arithmetic
             },
             number,
-            indices: vec![index],
+            index,
         }),
     }
 }

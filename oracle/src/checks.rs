@@ -21,7 +21,7 @@ fn shape(entry: Entry, lent: &Lent, outputs: &Slices) -> Option<Refusal> {
         Some(Refusal {
             place: Place::Shape,
             number,
-            indices: vec![0],
+            index: 0,
         })
     };
     if has_bad_size(entry, lent) {
@@ -54,24 +54,25 @@ fn has_bad_size(entry: Entry, lent: &Lent) -> bool {
 }
 
 fn mesh(entry: Entry, lent: &Lent) -> Option<Refusal> {
-    let refusal = |number, indices| {
+    let refusal = |number, index| {
         Some(Refusal {
             place: Place::Mesh,
             number,
-            indices,
+            index,
         })
     };
     let mut faces = 0..lent.counts.faces;
     if let Some(face) = faces.find(|&face| is_bad_face(entry, lent, face)) {
-        return refusal(4, vec![face]);
+        return refusal(4, face);
     }
     let mut cells = 0..lent.counts.cells;
     if let Some(cell) = cells.find(|&cell| has_broken_chain(entry, lent, cell)) {
-        return refusal(5, vec![cell]);
+        return refusal(5, cell);
     }
-    let bad_links = bad_links(entry, lent);
-    if !bad_links.is_empty() {
-        return refusal(6, bad_links);
+    if entry.lends(Part::Codes) {
+        if let Some(&face) = bad_links(lent).first() {
+            return refusal(6, face);
+        }
     }
     None
 }
@@ -128,11 +129,8 @@ fn is_broken(records: &[usize], first: usize, is_there: impl Fn(usize) -> bool) 
 }
 
 /// Every face whose link stands on a two-cell face, or names itself, a missing face, or one that is not
-/// linked back.
-fn bad_links(entry: Entry, lent: &Lent) -> Vec<usize> {
-    if !entry.lends(Part::Codes) {
-        return Vec::new();
-    }
+/// linked back; the lowest first. What is lent has passed the checks of shape.
+pub fn bad_links(lent: &Lent) -> Vec<usize> {
     let faces = lent.counts.faces;
     let peer = |face: usize| lent.slices.codes[2 * face + 1];
     let is_bad = |&face: &usize| {

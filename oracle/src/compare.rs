@@ -34,6 +34,8 @@ struct Tally {
     kinds: [u64; 3],
     /// Compared calls on input that no mesh of the Rust gives and that no check refuses.
     beyond: u64,
+    /// Compared calls that 6 refuses, and those of them with several bad links.
+    bad_links: [u64; 2],
     smallest: Option<Difference>,
     claims: Claims,
 }
@@ -222,6 +224,13 @@ fn print_tally(entry: Entry, is_linked: bool, tally: &Tally) {
         tally.beyond,
         tally.differ
     );
+    if entry.lends(Part::Codes) {
+        let [refused, several] = tally.bad_links;
+        println!(
+            "{}: {refused} of them refused by 6, {several} with several bad links",
+            entry.name()
+        );
+    }
     if exact::CLAIMED.contains(&entry) {
         tally.claims.print(entry.name());
     }
@@ -278,6 +287,7 @@ pub fn damages(random: &mut Random, entry: Entry, lent: &Lent, visit: Visit) -> 
             many.extend(damage::of_mesh(random, entry, lent));
         }
         tries.push(many);
+        tries.extend(damage::of_links(random, entry, lent));
     }
     tries
 }
@@ -320,6 +330,10 @@ fn compare_call(
         Outcome::Refused(_) => 2,
     };
     tally.kinds[kind] += 1;
+    if matches!(&expected, Outcome::Refused(refusal) if refusal.number == 6) {
+        tally.bad_links[0] += 1;
+        tally.bad_links[1] += u64::from(checks::bad_links(lent).len() > 1);
+    }
     tally.beyond += u64::from(!built && kind != 1);
     let wanted = expected.contents(entry, outputs);
     let Some(difference) = difference(entry, lent, &expected, &wanted, answer, &written) else {
@@ -358,7 +372,7 @@ fn difference(
     let is_right = match (expected, answer) {
         (Outcome::Accepted(_), Answer::Accepted) => true,
         (Outcome::Refused(refusal), Answer::Refused(number, index)) => {
-            refusal.number == number && refusal.indices.contains(&index)
+            (refusal.number, refusal.index) == (number, index)
         }
         _ => false,
     };
@@ -423,9 +437,9 @@ fn describe_outcome(
 ) {
     let _ = match expected {
         Outcome::Accepted(_) => writeln!(text, "expected: accepted"),
-        Outcome::Refused(Refusal {
-            number, indices, ..
-        }) => writeln!(text, "expected: refused {number}, index in {indices:?}"),
+        Outcome::Refused(Refusal { number, index, .. }) => {
+            writeln!(text, "expected: refused {number} at {index}")
+        }
     };
     let _ = writeln!(text, "answered: {answer:?}");
     for &part in entry.outputs() {

@@ -194,6 +194,29 @@ pub fn of_mesh(random: &mut Random, entry: Entry, lent: &Lent) -> Option<Damage>
     Some(Damage::Whole(part, at, value))
 }
 
+/// Several links at faces at random: of two faces with each other, whatever their cells, or of one face
+/// to anything worth trying. Most are bad.
+pub fn of_links(random: &mut Random, entry: Entry, lent: &Lent) -> Option<Vec<Damage>> {
+    let faces = lent.counts.faces;
+    if !entry.lends(Part::Codes) || faces == 0 {
+        return None;
+    }
+    let mut damages = Vec::new();
+    for _ in 0..random.between(2, 4) {
+        let face = random.below(faces);
+        if random.chance(1, 2) {
+            let peer = random.below(faces);
+            damages.push(Damage::Whole(Part::Codes, 2 * face + 1, peer + 1));
+            damages.push(Damage::Whole(Part::Codes, 2 * peer + 1, face + 1));
+        } else {
+            let values = tried(lent, Part::Codes, 2 * face + 1);
+            let value = random.pick(&values);
+            damages.push(Damage::Whole(Part::Codes, 2 * face + 1, value));
+        }
+    }
+    Some(damages)
+}
+
 /// A change of a table of chains that leaves its chains as they are.
 pub fn of_layout(random: &mut Random, entry: Entry) -> Option<Damage> {
     let tables = [Part::Facing, Part::Bordering, Part::Equations];

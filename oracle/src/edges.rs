@@ -311,15 +311,11 @@ fn result(entry: Entry, change: &Change) -> String {
             "accepted".to_string() + &words(entry, &outputs)
         }
         Outcome::Refused(refusal) => {
-            assert_eq!(refusal.indices.len(), 1, "a case has one right index");
             let left = match refusal.place {
                 Place::Shape | Place::Mesh => "untouched",
                 Place::Arithmetic => "cleared",
             };
-            format!(
-                "refused {} at {}, {left}",
-                refusal.number, refusal.indices[0]
-            )
+            format!("refused {} at {}, {left}", refusal.number, refusal.index)
         }
     }
 }

@@ -3,6 +3,7 @@
 
 use crate::calls::{Outcome, Place};
 use crate::cases::{self, Case, Visit};
+use crate::checks;
 use crate::compare::{damages, expected, patterned};
 use crate::entry::{Entry, Part};
 use crate::lent::{Lent, Slices};
@@ -211,14 +212,15 @@ impl List {
         self.write_call(entry, lent, &patterned(entry, lent));
     }
 
-    /// Writes a call where there are not yet enough with its answer.
+    /// Writes a call where there are not yet enough with its answer. Of those that 6 refuses, the later
+    /// half has several bad links.
     fn offer(&mut self, entry: Entry, lent: &Lent, outputs: &Slices) {
         let answer = answer(&expected(entry, lent, outputs));
         let key = (entry as usize, answer.0, answer.1);
-        let most = if answer.0 == 0 {
-            self.accepted
-        } else {
-            REFUSED
+        let most = match answer.0 {
+            0 => self.accepted,
+            6 if checks::bad_links(lent).len() == 1 => REFUSED / 2,
+            _ => REFUSED,
         };
         if self.answers.get(&key).copied().unwrap_or(0) < most {
             self.write_call(entry, lent, outputs);
@@ -231,7 +233,7 @@ impl List {
         self.write_mesh(&lent);
         self.write_conditions(&lent);
         let outcome = expected(entry, &lent, outputs);
-        let (number, place, indices) = answer(&outcome);
+        let (number, place, index) = answer(&outcome);
         let mut words = vec![if entry.has_stencil() {
             lent.records as u64
         } else {
@@ -250,8 +252,7 @@ impl List {
             words.push(length as u64);
             self.note_length(part, length);
         }
-        words.extend([number, place, indices.len() as u64]);
-        words.extend(&indices);
+        words.extend([number, place, index]);
         if let Outcome::Accepted(mut outputs) = outcome {
             makers::canonical(&mut outputs);
             for &part in entry.outputs() {
@@ -342,8 +343,8 @@ impl List {
              # kind 3, roots: pairs of a number and its root.\n\
              # Others are calls on the mesh and the conditions last above them: equation records; the other\n\
              # lent slices, where marked * a mesh number before each; the lengths of the outputs; the answer\n\
-             # (0 or the number of the refusal); 0 accepted, 1 outputs untouched, 2 outputs zero; the right\n\
-             # indices as a slice; where accepted the outputs.\n",
+             # (0 or the number of the refusal); 0 accepted, 1 outputs untouched, 2 outputs zero; the index of\n\
+             # the refusal, 0 accepted; where accepted the outputs.\n",
             self.calls,
             self.meshes,
             self.words,
@@ -402,17 +403,16 @@ fn is_of_call(part: Part) -> bool {
     !MESH_PARTS.contains(&part) && !CONDITION_PARTS.contains(&part)
 }
 
-/// Number, place and right indices, as the list has them.
-fn answer(outcome: &Outcome) -> (u64, u64, Vec<u64>) {
+/// Number, place and index, as the list has them.
+fn answer(outcome: &Outcome) -> (u64, u64, u64) {
     match outcome {
-        Outcome::Accepted(_) => (0, 0, Vec::new()),
+        Outcome::Accepted(_) => (0, 0, 0),
         Outcome::Refused(refusal) => {
             let place = match refusal.place {
                 Place::Shape | Place::Mesh => 1,
                 Place::Arithmetic => 2,
             };
-            let indices = refusal.indices.iter().map(|&index| index as u64);
-            (refusal.number, place, indices.collect())
+            (refusal.number, place, refusal.index as u64)
         }
     }
 }

@@ -39,7 +39,7 @@ pub fn run(settings: &Settings) -> bool {
             sqrt: None,
             entries: vec![(sham.entry, spoiled(sham))],
         };
-        try_sham(sham.name, port);
+        try_sham(&format!("{}, {}", sham.entry.name(), sham.name), port);
     }
     let port = Port {
         sqrt: Some(truncated_root),
@@ -147,7 +147,7 @@ fn faithful(entry: Entry) -> Call {
 fn answer(outcome: &Outcome) -> Answer {
     match outcome {
         Outcome::Accepted(_) => Answer::Accepted,
-        Outcome::Refused(refusal) => Answer::Refused(refusal.number, refusal.indices[0]),
+        Outcome::Refused(refusal) => Answer::Refused(refusal.number, refusal.index),
     }
 }
 
@@ -160,7 +160,26 @@ fn spoiled(sham: &'static Sham) -> Call {
     })
 }
 
+/// The highest face with a bad link named, and not the lowest.
+const fn highest_bad_link(entry: Entry) -> Sham {
+    Sham {
+        name: "the highest bad link",
+        entry,
+        fault: |lent, _, _, answer| match answer {
+            Answer::Refused(6, lowest) => {
+                let highest = checks::bad_links(lent).last().copied();
+                Answer::Refused(6, highest.unwrap_or(lowest))
+            }
+            answer => answer,
+        },
+    }
+}
+
 const SHAMS: &[Sham] = &[
+    highest_bad_link(Entry::LeastSquaresStencil),
+    highest_bad_link(Entry::PressureFaceCoefficientsWithBoundary),
+    highest_bad_link(Entry::CorrectFaceFluxWithBoundary),
+    highest_bad_link(Entry::Step),
     Sham {
         name: "the predicted field handed on",
         entry: Entry::CorrectFaceFluxWithBoundary,

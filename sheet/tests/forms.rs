@@ -161,6 +161,28 @@ fn a_refusal_is_the_result_of_a_sheet() {
     assert_eq!(status, 3);
 }
 
+#[test]
+fn of_several_bad_links_the_lowest_face_is_told() {
+    // faces 5 and 4 to themselves, and face 6 with face 0, which has two cells
+    for (links, lowest) in [
+        ("5 5  2 0\n4 4  2 0\n1 2  2 0", 4),
+        ("5 5  2 0\n6 0  2 0", 0),
+    ] {
+        for (sheet, call) in [
+            (step_sheet(), "step"),
+            (correction_sheet(), "correct_face_flux_with_boundary"),
+        ] {
+            let (sheet, _) = changed(&sheet, "1 2  2 0", links);
+            let (output, _, status) = told(&["-"], &sheet);
+            let expected = format!(
+                "refusal 6 index {lowest} by {call}\nface {lowest} has a link but two cells, or is linked to \
+                 itself, to a missing face or to one that is not linked back\n"
+            );
+            assert_eq!((output, status), (expected, 3));
+        }
+    }
+}
+
 /// Two unit cubes in space, by their geometry.
 const CUBES: &str = "\
 form step

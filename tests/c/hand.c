@@ -86,6 +86,34 @@ void judge_counts(void)
         }
 }
 
+/* Of several bad links the lowest face is named, by every function that is lent links. Face 1 stays
+ * linked with face 2; face 6 is linked with face 0, which has two cells, and faces 5 and 4 to themselves. */
+void judge_links(void)
+{
+    static const char *const names[4] = {
+        "least_squares_stencil", "pressure_face_coefficients_with_boundary",
+        "correct_face_flux_with_boundary", "step"
+    };
+    static const struct {
+        const char *name;
+        size_t faces, face[4], peer[4], lowest;
+    } rows[] = {
+        {"faces 5 and 4 linked to themselves", 2, {5, 4}, {5, 4}, 4},
+        {"faces 6 and 0 linked, face 5 to itself", 3, {6, 0, 5}, {0, 6, 5}, 0}
+    };
+    static struct call call;
+    for (size_t i = 0; i < sizeof rows / sizeof *rows; i++)
+        for (size_t k = 0; k < 4; k++) {
+            const struct entry *entry = named(names[k]);
+            lend(&call, entry);
+            for (size_t f = 0; f < rows[i].faces; f++)
+                call.whole[CODES][2 * rows[i].face[f] + 1] = rows[i].peer[f] + 1;
+            hold_answer(entry, &call, 6, rows[i].name);
+            if (call.index != rows[i].lowest)
+                fail("%s, %s: face %zu, expected %zu", names[k], rows[i].name, call.index, rows[i].lowest);
+        }
+}
+
 /* One record more of each kind, which no chain reaches, changes no answer. */
 void judge_room(void)
 {

@@ -14,6 +14,8 @@ void judge_root(char *line);
 
 void judge_counts(void);
 
+void judge_links(void);
+
 void judge_room(void);
 
 void judge_null(void);

@@ -52,6 +52,7 @@ int main(int count, char **arguments)
     judge_coverage();
     judge_file(arguments[2], judge_root);
     judge_counts();
+    judge_links();
     judge_room();
     judge_null();
     printf("%zu passed, 0 failed\n", passed);

@@ -78,7 +78,7 @@ impl RefusalKind {
 pub struct Refusal {
     /// Why.
     pub kind: RefusalKind,
-    /// The face or cell, as the kind says; 0 where none is named.
+    /// The face or cell, as the kind says, for 4 to 6 the lowest such one; 0 where none is named.
     pub index: usize,
 }
 

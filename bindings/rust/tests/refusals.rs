@@ -167,6 +167,33 @@ fn bad_link_6() {
     assert_eq!(refused_at(&itself), (6, 3));
 }
 
+/// Of several bad links the lowest face is named, by every call that takes links.
+#[test]
+fn lowest_bad_link_6() {
+    let lowest = |links: &[(usize, usize)]| {
+        let mut made = base().made();
+        for &(face, peer) in links {
+            made.conditions.link(face, peer, [1.0, 0.0, 0.0]).unwrap();
+        }
+        let (mesh, c) = (&made.mesh, &made.conditions);
+        let (p, k, x) = (&made.predicted, &made.coefficients, &made.correction);
+        let answers = [
+            refused(mesh.least_squares_stencil(c)),
+            refused(mesh.pressure_face_coefficients_with_boundary(c, &made.responses)),
+            refused(mesh.correct_face_flux_with_boundary(c, p, k, x)),
+            refused(mesh.step(made.step_input())),
+        ];
+        assert_eq!(answers, [answers[0]; 4]);
+        answers[0]
+    };
+    // 1 and 2 stay linked well
+    assert_eq!(lowest(&[(6, 6), (4, 4), (5, 5)]), (6, 4));
+    // 0 has two cells, its peer has one
+    assert_eq!(lowest(&[(6, 0), (5, 5)]), (6, 0));
+    // 1 and 4 are linked well, and so are 2 and 6 after them, but 3 was left by 4
+    assert_eq!(lowest(&[(3, 4), (1, 4), (2, 6), (5, 5)]), (6, 3));
+}
+
 #[test]
 fn arithmetic_7_to_12() {
     let mut near = base();

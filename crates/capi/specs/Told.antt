@@ -13,7 +13,7 @@ unfoldable pub indexOf : Answer → ℕ
 indexOf Accepted = 0
 indexOf (Refused k i) = i
 
--- the number and the index are those of an answer that the entry may give
+-- the number and the index are those of the answer that the entry gives
 pub record Told (Gives : Answer → Type 0) (number index : ℕ) : Type 0 where
   pub answer : Answer
   pub gives : Gives answer

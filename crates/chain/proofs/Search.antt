@@ -8,7 +8,7 @@ use native.Mathlib.Omega.{arith}
 use native.Mathlib.Nat.{eq-or-lt-of-le, le-of-suc-le-suc, le-antisymm}
 use native.Mathlib.Numerals.{add-one}
 use native.Mathlib.Decide.{le-ind}
-use Rattle.chain.specs.Search.{orAt, lowestWhere, Names, lower}
+use Rattle.chain.specs.Search.{orAt, lowestWhere, Lowest, lower}
 use Rattle.chain.specs.declared.Found.{Found}
 use Rattle.chain.specs.declared.Found.the-variants.{Nothing, At}
 
@@ -58,29 +58,21 @@ none-lower (At i) (At j) h = absurd (go (ltb j i) h)
     go true e = let z : _≡_ {A = ℕ} 0 1 = cc in omega arith
     go false e = let z : _≡_ {A = ℕ} 0 1 = cc in omega arith
 
--- what a search finds is an index at which the test holds
-lowest-found : (g : ℕ → Bool) (n i : ℕ) → lowestWhere g n ≡ At i → (i < n) × (g i ≡ true)
+-- what a search finds is the lowest index at which the test holds
+pub lowest-found : (g : ℕ → Bool) (n i : ℕ) → lowestWhere g n ≡ At i → Lowest g n i
 unfolding lowestWhere orAt
 lowest-found g zero i h = let z : _≡_ {A = ℕ} 0 1 = cc in absurd (omega arith)
 lowest-found g (suc n) i h = go (lowest-found g n i) (lowestWhere g n) (g n) refl refl h
   where
-    go : (lowestWhere g n ≡ At i → (i < n) × (g i ≡ true)) → (f : Found) (t : Bool) → lowestWhere g n ≡ f → g n ≡ t → orAt f t n ≡ At i → (i < suc n) × (g i ≡ true)
+    go : (lowestWhere g n ≡ At i → Lowest g n i) → (f : Found) (t : Bool) → lowestWhere g n ≡ f → g n ≡ t → orAt f t n ≡ At i → Lowest g (suc n) i
     go r (At k) t p q e =
         let same : k ≡ i = cc in
         let w = r (rw (← same) p) in
-        (omega arith, w .1)
+        record { within = omega (arith, w .within); holds = w .holds; none = w .none }
     go r Nothing true p q e =
         let same : n ≡ i = cc in
-        (omega arith, rw (← same) q)
+        record { within = omega arith; holds = rw (← same) q; none = rw (← same) (λ j l. none-below g n j p l) }
     go r Nothing false p q e = let z : _≡_ {A = ℕ} 0 1 = cc in absurd (omega arith)
-
-pub names-lowest : (g : ℕ → Bool) (n : ℕ) → Names g n (lowestWhere g n)
-unfolding Names
-names-lowest g n = go (lowestWhere g n) refl
-  where
-    go : (f : Found) → lowestWhere g n ≡ f → Names g n f
-    go Nothing e = e
-    go (At i) e = lowest-found g n i e
 
 -- what holds at every index below i, at the start and one index on
 pub below-none : (P : ℕ → Type 0) (j : ℕ) → j < 0 → P j

@@ -26,10 +26,11 @@ unfoldable pub lowestWhere : (ℕ → Bool) → ℕ → Found
 lowestWhere g zero = Nothing
 lowestWhere g (suc n) = orAt (lowestWhere g n) (g n) n
 
--- any index below n at which g holds, and Nothing only where there is none
-unfoldable pub Names : (ℕ → Bool) → ℕ → Found → Type 0
-Names g n Nothing = lowestWhere g n ≡ Nothing
-Names g n (At i) = (i < n) × (g i ≡ true)
+-- what an index so found is, in words: g holds there, and at no lower index (`lowest-found`, proofs/Search.antt)
+pub record Lowest (g : ℕ → Bool) (n i : ℕ) : Type 0 where
+  pub within : i < n
+  pub holds : g i ≡ true
+  pub none : (j : ℕ) → j < i → g j ≡ false
 
 -- the lower of two places
 unfoldable pub lower : Found → Found → Found

@@ -1,5 +1,5 @@
-// Refusal 6: the links of faces, on the row of four cells, whose one-cell faces are 0, 4 and 5. In
-// each case at most one face is badly linked, so the index is fixed.
+// Refusal 6: the links of faces, on the row of four cells, whose one-cell faces are 0, 4 and 5. Where
+// several faces are badly linked, the lowest is named.
 ghost use Prim.Native.Nat.{_<_};
 use crate::lent::Lent;
 use crate::lent::row;
@@ -70,6 +70,23 @@ fn back() {
     );
 }
 
+fn several() {
+    let base = row();
+    show(
+        b"first and last face linked to themselves",
+        base.with_peer(0, 1).with_peer(5, 6),
+    );
+    show(b"two-cell faces 1 and 2 linked", linked(1, 2));
+    show(
+        b"faces 0, 5 and 4 linked in a circle",
+        base.with_peer(0, 6).with_peer(5, 5).with_peer(4, 1),
+    );
+    show(
+        b"faces 0 and 4 linked, faces 3 and 5 linked past the last face",
+        linked(0, 4).with_peer(5, 7).with_peer(3, 7),
+    );
+}
+
 fn order() {
     let base = row().with_peer(0, 1);
     show(
@@ -87,5 +104,6 @@ pub(crate) fn all() {
     two_cell();
     peers();
     back();
+    several();
     order();
 }

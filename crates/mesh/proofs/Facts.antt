@@ -11,8 +11,8 @@ use lib.ListN.{length}
 use borrow.Author.Tests.{eqb-true, eqb-false, ltb-true, ltb-false, leb-true, leb-false, not-false}
 use Rattle.mesh.specs.Answers.{orElse, firstOf, pass, at, shape}
 use Rattle.chain.specs.Pairs.{firstAt, secondAt}
-use Rattle.chain.specs.Search.{someOf, lowestWhere, Names}
-use Rattle.mesh.specs.Checks.{sizeTests, sizesOk, badFace, lowestBadFace, unknownCode, lowestUnknownCode, badLink, NamesBadLink}
+use Rattle.chain.specs.Search.{someOf, lowestWhere}
+use Rattle.mesh.specs.Checks.{sizeTests, sizesOk, badFace, lowestBadFace, unknownCode, lowestUnknownCode, badLink, lowestBadLink}
 use Rattle.chain.specs.Chains.{ends, headAt, cellCount, brokenCell, lowestBroken}
 use Rattle.mesh.specs.Facts.{Small, CellsOf, FacesIn, CodesIn, ChainsIn, LinkOf, LinksIn}
 use Rattle.mesh.specs.declared.Counts.{Counts}
@@ -76,8 +76,8 @@ link-tests peer faces true m r ez em nz h = absurd (nz (eqb-true peer 0 (sym ez)
 link-tests peer faces false true r ez em nz h = let z : _≡_ {A = ℕ} 0 1 = cc in absurd (omega arith)
 link-tests peer faces false false r ez em nz h = (ltb-false faces peer (sym em), h)
 
-pub links-in : (adjacency codes : List ℕ) → NamesBadLink adjacency codes Nothing → LinksIn adjacency codes
-unfolding Names badLink
+pub links-in : (adjacency codes : List ℕ) → lowestBadLink adjacency codes ≡ Nothing → LinksIn adjacency codes
+unfolding badLink
 links-in adjacency codes h f l nz =
     let peer = secondAt codes f in
     let t =

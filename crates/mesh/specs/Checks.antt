@@ -6,7 +6,7 @@ use Prim.Native.Nat.{ℕ, _+_, _-_, _/_}
 use lib.Dec.{eqb, leb, ltb}
 use lib.ListN.{length}
 use Rattle.chain.specs.Pairs.{firstAt, secondAt}
-use Rattle.chain.specs.Search.{everyOf, someOf, lowestWhere, Names}
+use Rattle.chain.specs.Search.{everyOf, someOf, lowestWhere}
 use Rattle.mesh.specs.declared.Counts.{Counts}
 use Rattle.chain.specs.declared.Found.{Found}
 
@@ -46,6 +46,5 @@ badLink adjacency codes f =
     (cond (ltb (length codes / 2) peer) true
     (someOf (not (eqb (secondAt adjacency f) 0)) (eqb peer (f + 1) ∷ not (eqb (secondAt codes (peer - 1)) (f + 1)) ∷ [])))
 
--- a face with such a link, whichever
-abbrev pub NamesBadLink : List ℕ → List ℕ → Found → Type 0
-NamesBadLink adjacency codes = Names (badLink adjacency codes) (length codes / 2)
+abbrev pub lowestBadLink : List ℕ → List ℕ → Found
+lowestBadLink adjacency codes = lowestWhere (badLink adjacency codes) (length codes / 2)

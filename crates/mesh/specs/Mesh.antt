@@ -8,13 +8,12 @@ use lib.ListN.{length}
 use lib.Ieee.{Float}
 use Rattle.mesh.specs.Answers.{pass, at, firstOf}
 use Rattle.chain.specs.Search.{everyOf, lower}
-use Rattle.mesh.specs.Checks.{sizesOk, lowestBadFace, lowestUnknownCode, NamesBadLink}
+use Rattle.mesh.specs.Checks.{sizesOk, lowestBadFace, lowestUnknownCode, lowestBadLink}
 use Rattle.chain.specs.Chains.{lowestBroken, Chain, headAt}
 use Rattle.mesh.specs.Facts.{Small, CellsOf, LinkOf}
 use Rattle.chain.specs.Pairs.{firstAt, secondAt}
 use Rattle.mesh.specs.declared.Answer.{Answer}
 use Rattle.mesh.specs.declared.Counts.{Counts}
-use Rattle.chain.specs.declared.Found.{Found}
 use Rattle.chain.specs.declared.walk.Form.the-variants.{First, Second}
 
 pub record Mesh : Type 0 where
@@ -54,34 +53,24 @@ meshSized m = everyOf (eqb (length (m .adjacency)) (2 * (m .counts .faces))) (me
 abbrev pub conditionsSized : ℕ → List ℕ → List Float → Bool
 conditionsSized faces codes values = eqb (length codes) (2 * faces) && eqb (length values) (4 * faces)
 
--- 4, 5 and 6: the lowest bad face, the lowest cell with a broken chain, and a badly linked face, whichever `link` names
-unfoldable pub topology : Mesh → List ℕ → Found → Answer
-topology m codes link =
+-- 4, 5 and 6: the lowest bad face, the lowest cell with a broken chain, and the lowest badly linked face
+unfoldable pub topology : Mesh → List ℕ → Answer
+topology m codes =
     firstOf
     (at 4 (lower (lowestBadFace (m .counts .cells) (m .adjacency)) (lowestUnknownCode codes))
     ∷ at 5 (lower (lowestBroken (m .counts .faces) (m .facing) First (m .heads)) (lowestBroken (m .counts .cells) (m .bordering) Second (m .heads)))
-    ∷ at 6 link
+    ∷ at 6 (lowestBadLink (m .adjacency) codes)
     ∷ [])
 
-pub record TopologyChecked (m : Mesh) (codes : List ℕ) (r : Answer) : Type 0 where
-  pub link : Found
-  pub names : NamesBadLink (m .adjacency) codes link
-  pub is : r ≡ topology m codes link
-
 -- 1 to 6
-unfoldable pub checks : Mesh → Conditions → Found → Answer
-checks m k link =
+unfoldable pub checks : Mesh → Conditions → Answer
+checks m k =
     firstOf
     (pass 1 (sizesOk (m .counts))
     ∷ pass 2 (meshSized m && conditionsSized (m .counts .faces) (k .codes) (k .values))
     ∷ pass 3 (eqb (k .number) (m .counts .mesh))
-    ∷ topology m (k .codes) link
+    ∷ topology m (k .codes)
     ∷ [])
-
-pub record Checked (m : Mesh) (k : Conditions) (r : Answer) : Type 0 where
-  pub link : Found
-  pub names : NamesBadLink (m .adjacency) (k .codes) link
-  pub is : r ≡ checks m k link
 
 -- ---- what the checks establish
 

@@ -7,8 +7,8 @@ ghost use lib.ListN.{length, replicate};
 ghost use Rattle.binary64.specs.Numbers.{zero64};
 ghost use Rattle.mesh.specs.Answers.{at, orElse, shape};
 ghost use Rattle.mesh.specs.Records.{conditionOf};
-ghost use Rattle.mesh.specs.Checks.{sizesOk, lowestBadFace, lowestUnknownCode, NamesBadLink};
-ghost use Rattle.mesh.specs.Mesh.{mesh, conditions, meshSized, conditionsSized, TopologyChecked, Checked};
+ghost use Rattle.mesh.specs.Checks.{sizesOk, lowestBadFace, lowestUnknownCode, lowestBadLink};
+ghost use Rattle.mesh.specs.Mesh.{mesh, conditions, meshSized, conditionsSized, topology, checks};
 use chain::Found;
 use vector::Vec3;
 
@@ -154,9 +154,9 @@ pub fn lowest_unknown_code(codes: &[usize]) -> Found
     Found::Nothing
 }
 
-// Check 6: a face with a link that meets it.
-pub fn bad_link(adjacency: &[usize], codes: &[usize]) -> Found
-    ensures { λ r. ⌜ NamesBadLink (now (adjacency .entry)) (now (codes .entry)) r ⌝ }
+// Check 6: the lowest face with a link that meets it.
+pub fn lowest_bad_link(adjacency: &[usize], codes: &[usize]) -> Found
+    ensures { λ r. ⌜ r ≡ lowestBadLink (now (adjacency .entry)) (now (codes .entry)) ⌝ }
 {
     let mut f = 0;
     while f < codes.len() / 2 {
@@ -238,7 +238,7 @@ pub fn check_topology(
     bordering: &[usize],
     codes: &[usize],
 ) -> Answer
-    ensures { λ r. ⌜ TopologyChecked (mesh counts (now (adjacency .entry)) (now (geometry .entry)) (now (heads .entry)) (now (places .entry)) (now (facing .entry)) (now (bordering .entry))) (now (codes .entry)) r ⌝ }
+    ensures { λ r. ⌜ r ≡ topology (mesh counts (now (adjacency .entry)) (now (geometry .entry)) (now (heads .entry)) (now (places .entry)) (now (facing .entry)) (now (bordering .entry))) (now (codes .entry)) ⌝ }
 {
     let face = chain::lower_of(
         lowest_bad_face(counts.cells, adjacency),
@@ -254,7 +254,7 @@ pub fn check_topology(
     if let Found::At(c) = cell {
         return Answer::Refused(5, c);
     }
-    let link = bad_link(adjacency, codes);
+    let link = lowest_bad_link(adjacency, codes);
     if let Found::At(f) = link {
         return Answer::Refused(6, f);
     }
@@ -275,7 +275,7 @@ pub fn check(
     codes: &[usize],
     values: &[f64],
 ) -> Answer
-    ensures { λ r. ⌜ Checked (mesh counts (now (adjacency .entry)) (now (geometry .entry)) (now (heads .entry)) (now (places .entry)) (now (facing .entry)) (now (bordering .entry))) (conditions number (now (codes .entry)) (now (values .entry))) r ⌝ }
+    ensures { λ r. ⌜ r ≡ checks (mesh counts (now (adjacency .entry)) (now (geometry .entry)) (now (heads .entry)) (now (places .entry)) (now (facing .entry)) (now (bordering .entry))) (conditions number (now (codes .entry)) (now (values .entry))) ⌝ }
 {
     if !sizes_ok(counts) {
         return Answer::Refused(1, 0);

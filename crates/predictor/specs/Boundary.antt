@@ -8,7 +8,7 @@ use lib.ListN.{length, getD}
 use lib.Ieee.{Float, nan}
 use Rattle.binary64.specs.Numbers.{zero64}
 use Rattle.mesh.specs.Answers.{at, orElse, shape}
-use Rattle.mesh.specs.Checks.{sizesOk, lowestBadFace, lowestUnknownCode, NamesBadLink}
+use Rattle.mesh.specs.Checks.{sizesOk, lowestBadFace, lowestUnknownCode, lowestBadLink}
 use Rattle.mesh.specs.Mesh.{Conditions, conditionsSized}
 use Rattle.mesh.specs.Pass.{valuesOf, handedOut, unless}
 use Rattle.chain.specs.Pairs.{secondAt}
@@ -20,7 +20,6 @@ use Rattle.mesh.specs.declared.Answer.the-variants.{Accepted}
 use Rattle.mesh.specs.declared.Condition.{Condition}
 use Rattle.mesh.specs.declared.Condition.the-variants.{Absent, Fixed, ZeroGradient}
 use Rattle.mesh.specs.declared.Counts.{Counts}
-use Rattle.chain.specs.declared.Found.{Found}
 use Rattle.mesh.specs.declared.Outcome.{Outcome}
 use Rattle.mesh.specs.declared.Outcome.the-variants.{Value}
 use Rattle.coupling.specs.Face.{linkedCoefficient, fixedCoefficient}
@@ -73,36 +72,24 @@ Begun m responses l = (coefficientAnswer m responses (length l) ≡ Accepted) ×
 abbrev pub boundsOf : Conditions → Bounds
 boundsOf k = bounds (k .codes) (k .values)
 
--- 4 and 6, whichever bad link is named
-unfoldable pub links : ℕ → List ℕ → List ℕ → Found → Answer
-links cells adjacency codes link = orElse (at 4 (lower (lowestBadFace cells adjacency) (lowestUnknownCode codes))) (at 6 link)
-
-pub record LinksChecked (cells : ℕ) (adjacency codes : List ℕ) (r : Answer) : Type 0 where
-  pub link : Found
-  pub names : NamesBadLink adjacency codes link
-  pub is : r ≡ links cells adjacency codes link
+-- 4 and 6: the lowest bad face, then the lowest badly linked one
+unfoldable pub links : ℕ → List ℕ → List ℕ → Answer
+links cells adjacency codes = orElse (at 4 (lower (lowestBadFace cells adjacency) (lowestUnknownCode codes))) (at 6 (lowestBadLink adjacency codes))
 
 -- 1 to 4, and 6, of what it is lent; `outs` is the length of the output
-unfoldable pub boundaryChecks : Counts → Grid → Conditions → Field → ℕ → Found → Answer
-boundaryChecks n m k responses outs link =
+unfoldable pub boundaryChecks : Counts → Grid → Conditions → Field → ℕ → Answer
+boundaryChecks n m k responses outs =
     orElse
     (shape (sizesOk n)
     (gridSized n m && conditionsSized (n .faces) (k .codes) (k .values) && eqb (length (responses .values)) (n .cells) && eqb outs (n .faces))
     (eqb (k .number) (n .mesh) && eqb (responses .number) (n .mesh)))
-    (links (n .cells) (m .adjacency) (k .codes) link)
-
-pub record BoundaryChecked (n : Counts) (m : Grid) (k : Conditions) (responses : Field) (outs : ℕ) (r : Answer) : Type 0 where
-  pub link : Found
-  pub names : NamesBadLink (m .adjacency) (k .codes) link
-  pub is : r ≡ boundaryChecks n m k responses outs link
+    (links (n .cells) (m .adjacency) (k .codes))
 
 -- the answer, and what the output holds after the call: untouched where a check refuses, +0.0 where arithmetic does
 pub record BoundaryCall (n : Counts) (m : Grid) (k : Conditions) (responses : Field) (old : List Float) (r : Answer) (new : List Float) : Type 0 where
-  pub link : Found
-  pub names : NamesBadLink (m .adjacency) (k .codes) link
-  pub answer : r ≡ orElse (boundaryChecks n m k responses (length old) link) (boundaryAnswer m (boundsOf k) (responses .values) (n .faces))
+  pub answer : r ≡ orElse (boundaryChecks n m k responses (length old)) (boundaryAnswer m (boundsOf k) (responses .values) (n .faces))
   pub out :
-      new ≡ unless (boundaryChecks n m k responses (length old) link) old (handedOut r (n .faces) (boundaryCoefficients m (boundsOf k) (responses .values) (n .faces)))
+      new ≡ unless (boundaryChecks n m k responses (length old)) old (handedOut r (n .faces) (boundaryCoefficients m (boundsOf k) (responses .values) (n .faces)))
 
 -- what the checks establish of the conditions of so many faces
 pub record Bounded (k : Bounds) (faces : ℕ) : Type 0 where

@@ -53,7 +53,7 @@ fn one_agrees(words: &[usize], floats: &[f64], c: Call, v: Verdict) -> bool {
     let mut out = [pattern::value(FILL as u64); ROOM];
     let n = v.length(words, 0);
     let answer = call_one(words, floats, c, &mut out[..n]);
-    v.is_right(words, answer) & v.has_reals(words, 0, &out)
+    v.is_right(answer) & v.has_reals(words, 0, &out)
 }
 
 fn call_two(
@@ -78,7 +78,7 @@ fn two_agree(words: &[usize], floats: &[f64], c: Call, v: Verdict) -> bool {
     let i = v.length(words, 0);
     let j = v.length(words, 1);
     let answer = call_two(words, floats, c, &mut first[..i], &mut second[..j]);
-    v.is_right(words, answer) & v.has_reals(words, 0, &first) & v.has_reals(words, 1, &second)
+    v.is_right(answer) & v.has_reals(words, 0, &first) & v.has_reals(words, 1, &second)
 }
 
 // How many outputs the calls of a kind have.

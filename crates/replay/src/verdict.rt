@@ -3,44 +3,32 @@ ghost use Prim.Native.Nat.{_≤_};
 use crate::FILL;
 use crate::NOWHERE;
 use crate::ROOM;
-use crate::words::after;
-use crate::words::numbers;
 use crate::words::part;
 use crate::words::skip;
 use crate::words::word;
 use mesh::Answer;
 
 // The place of the lengths of the outputs; the answer's number; what the outputs hold, 0 the numbers
-// that follow, 1 what they held before the call, 2 zeros; the places of the right indices and of the
-// first output's numbers.
+// that follow, 1 what they held before the call, 2 zeros; the answer's index; the place of the first
+// output's numbers.
 pub struct Verdict {
     lengths: usize,
     answer: u64,
     held: usize,
-    indices: usize,
+    index: usize,
     outputs: usize,
 }
 
 // Of a call with so many outputs.
 pub(crate) fn verdict_at(words: &[usize], lengths: usize, count: usize) -> Verdict {
     let at = skip(words, lengths, count);
-    let indices = skip(words, at, 2);
     Verdict {
         lengths,
         answer: word(words, at, 0) as u64,
         held: word(words, at, 1),
-        indices,
-        outputs: after(words, indices),
+        index: word(words, at, 2),
+        outputs: skip(words, at, 3),
     }
-}
-
-// Whether a word stands in a slice.
-fn is_among(slice: &[usize], n: usize) -> bool {
-    let mut i = 0;
-    while i < slice.len() && slice[i] != n {
-        i += 1;
-    }
-    i < slice.len()
 }
 
 impl Verdict {
@@ -95,12 +83,10 @@ impl Verdict {
         n
     }
 
-    pub(crate) fn is_right(self, words: &[usize], answer: Answer) -> bool {
+    pub(crate) fn is_right(self, answer: Answer) -> bool {
         match answer {
             Answer::Accepted => self.answer == 0,
-            Answer::Refused(number, index) => {
-                number == self.answer && is_among(numbers(words, self.indices), index)
-            }
+            Answer::Refused(number, index) => number == self.answer && index == self.index,
         }
     }
 

@@ -1,5 +1,5 @@
 -- What the checks of each entry establish. Assumes nothing.
-use mathlib.Core.Path.{_≡_, sym, _∙_, subst}
+use mathlib.Core.Path.{_≡_, sym, _∙_}
 use mathlib.Core.List.{List}
 use mathlib.Core.Bool.{true, _&&_}
 use Prim.Native.Nat.{ℕ, _+_, _*_, _≤_, _<_}
@@ -10,14 +10,13 @@ use lib.Ieee.{Float}
 use borrow.Author.Tests.{eqb-true}
 use Rattle.mesh.specs.Answers.{at, orElse, shape}
 use Rattle.chain.specs.Chains.{lowestBroken}
-use Rattle.mesh.specs.Checks.{sizesOk, lowestBadFace, lowestUnknownCode, NamesBadLink}
+use Rattle.mesh.specs.Checks.{sizesOk, lowestBadFace, lowestUnknownCode, lowestBadLink}
 use Rattle.mesh.specs.Facts.{FacesIn, LinksIn}
 use Rattle.mesh.specs.Mesh.{Conditions, conditionsSized}
 use Rattle.chain.specs.Search.{lower, everyOf}
 use Rattle.mesh.specs.declared.Answer.{Answer}
 use Rattle.mesh.specs.declared.Answer.the-variants.{Accepted}
 use Rattle.mesh.specs.declared.Counts.{Counts}
-use Rattle.chain.specs.declared.Found.{Found}
 use Rattle.chain.specs.declared.Found.the-variants.{Nothing}
 use Rattle.chain.specs.declared.walk.Form.the-variants.{Single}
 use Rattle.mesh.proofs.Facts.{both-accepted, nothing-at, shape-accepted, small, faces-in, links-in, peer-below}
@@ -28,9 +27,9 @@ use Rattle.numerics.specs.Gradient.{Sloped}
 use Rattle.numerics.specs.Outflow.{Flows}
 use Rattle.numerics.proofs.Flows.{flows-by}
 use Rattle.numerics.proofs.Slopes.{slopes-by}
-use Rattle.predictor.specs.Boundary.{Bounded, links, boundsOf, boundaryChecks, BoundaryChecked}
+use Rattle.predictor.specs.Boundary.{Bounded, links, boundsOf, boundaryChecks}
 use Rattle.predictor.specs.Coefficients.{coefficientChecks}
-use Rattle.simple.specs.Corrected.{Fields, correctionSizes, fieldNumbers, correctingBy, correctionChecks, CorrectionChecked}
+use Rattle.simple.specs.Corrected.{Fields, correctionSizes, fieldNumbers, correctingBy, correctionChecks}
 use Rattle.corrector.specs.Correction.{Correctable}
 use Rattle.corrector.specs.Diagonal.{diagonalChecks}
 use Rattle.coupling.specs.Grid.{Grid, Field, Coupled, gridSizes, gridSized}
@@ -91,22 +90,22 @@ coefficients-passed n m responses outs h =
 -- ---- with conditions and links
 
 -- 4 and 6, where they pass
-links-passed : (cells : ℕ) (adjacency codes : List ℕ) (link : Found) → NamesBadLink adjacency codes link → links cells adjacency codes link ≡ Accepted → FacesIn cells adjacency × LinksIn adjacency codes
+links-passed : (cells : ℕ) (adjacency codes : List ℕ) → links cells adjacency codes ≡ Accepted → FacesIn cells adjacency × LinksIn adjacency codes
 unfolding links
-links-passed cells adjacency codes link names ok =
-    let both = both-accepted (at 4 (lower (lowestBadFace cells adjacency) (lowestUnknownCode codes))) (at 6 link) ok in
+links-passed cells adjacency codes ok =
+    let both = both-accepted (at 4 (lower (lowestBadFace cells adjacency) (lowestUnknownCode codes))) (at 6 (lowestBadLink adjacency codes)) ok in
     let none = none-lower (lowestBadFace cells adjacency) (lowestUnknownCode codes) (nothing-at 4 _ (both .0)) in
-    (faces-in cells adjacency (none .0), links-in adjacency codes (subst (NamesBadLink adjacency codes) (nothing-at 6 link (both .1)) names))
+    (faces-in cells adjacency (none .0), links-in adjacency codes (nothing-at 6 (lowestBadLink adjacency codes) (both .1)))
 
-pub boundary-passed : (n : Counts) (m : Grid) (k : Conditions) (responses : Field) (outs : ℕ) (r : Answer) → BoundaryChecked n m k responses outs r → r ≡ Accepted
+pub boundary-passed : (n : Counts) (m : Grid) (k : Conditions) (responses : Field) (outs : ℕ) (r : Answer) → r ≡ boundaryChecks n m k responses outs → r ≡ Accepted
     → Coupled m (length (responses .values)) outs × Bounded (boundsOf k) outs × (outs ≡ n .faces)
 unfolding boundaryChecks
 boundary-passed n m k responses outs r c e =
     let bound = conditionsSized (n .faces) (k .codes) (k .values) in
     let sized = gridSized n m && bound && eqb (length (responses .values)) (n .cells) && eqb outs (n .faces) in
     let same = eqb (k .number) (n .mesh) && eqb (responses .number) (n .mesh) in
-    let both = both-accepted (shape (sizesOk n) sized same) (links (n .cells) (m .adjacency) (k .codes) (c .link)) (sym (c .is) ∙ e) in
-    let linked = links-passed (n .cells) (m .adjacency) (k .codes) (c .link) (c .names) (both .1) in
+    let both = both-accepted (shape (sizesOk n) sized same) (links (n .cells) (m .adjacency) (k .codes)) (sym c ∙ e) in
+    let linked = links-passed (n .cells) (m .adjacency) (k .codes) (both .1) in
     let s = shape-accepted (sizesOk n) sized same (both .0) in
     let w = and-true (gridSized n m && bound && eqb (length (responses .values)) (n .cells)) (eqb outs (n .faces)) (s .1) in
     let v = and-true (gridSized n m && bound) (eqb (length (responses .values)) (n .cells)) (w .0) in
@@ -120,15 +119,15 @@ boundary-passed n m k responses outs r c e =
       o,
     )
 
-pub correction-passed : (n : Counts) (adjacency : List ℕ) (k : Conditions) (l : Fields) (outs : ℕ) (r : Answer) → CorrectionChecked n adjacency k l outs r → r ≡ Accepted
+pub correction-passed : (n : Counts) (adjacency : List ℕ) (k : Conditions) (l : Fields) (outs : ℕ) (r : Answer) → r ≡ correctionChecks n adjacency k l outs → r ≡ Accepted
     → Correctable (correctingBy adjacency k l) × (outs ≡ length (l .predicted .values)) × (length (l .predicted .values) ≡ n .faces)
 unfolding correctionChecks
 correction-passed n adjacency k l outs r c e =
     let bound = conditionsSized (n .faces) (k .codes) (k .values) in
     let sized = everyOf bound (correctionSizes n adjacency l outs) in
     let same = everyOf (eqb (k .number) (n .mesh)) (fieldNumbers n l) in
-    let both = both-accepted (shape (sizesOk n) sized same) (links (n .cells) adjacency (k .codes) (c .link)) (sym (c .is) ∙ e) in
-    let linked = links-passed (n .cells) adjacency (k .codes) (c .link) (c .names) (both .1) in
+    let both = both-accepted (shape (sizesOk n) sized same) (links (n .cells) adjacency (k .codes)) (sym c ∙ e) in
+    let linked = links-passed (n .cells) adjacency (k .codes) (both .1) in
     let s = shape-accepted (sizesOk n) sized same (both .0) in
     let w = every-at bound (correctionSizes n adjacency l outs) (s .1) in
     let t = and-true (eqb (length (k .codes)) (2 * (n .faces))) (eqb (length (k .values)) (4 * (n .faces))) (w .0) in

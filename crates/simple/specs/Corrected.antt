@@ -7,14 +7,13 @@ use lib.Dec.{eqb}
 use lib.ListN.{length}
 use lib.Ieee.{Float}
 use Rattle.mesh.specs.Answers.{orElse, shape}
-use Rattle.mesh.specs.Checks.{sizesOk, NamesBadLink}
+use Rattle.mesh.specs.Checks.{sizesOk}
 use Rattle.mesh.specs.Mesh.{Conditions, conditionsSized}
 use Rattle.mesh.specs.Pass.{handedOut, unless}
 use Rattle.chain.specs.Search.{everyOf}
 use Rattle.mesh.specs.declared.Answer.{Answer}
 use Rattle.mesh.specs.declared.Answer.the-variants.{Accepted}
 use Rattle.mesh.specs.declared.Counts.{Counts}
-use Rattle.chain.specs.declared.Found.{Found}
 use Rattle.predictor.specs.Boundary.{links}
 use Rattle.corrector.specs.Correction.{Correcting, correcting, correctionAnswer, correctedFluxes}
 use Rattle.coupling.specs.Grid.{Field}
@@ -47,26 +46,19 @@ abbrev pub fieldNumbers : Counts → Fields → List Bool
 fieldNumbers n l = eqb (l .predicted .number) (n .mesh) ∷ eqb (l .coefficients .number) (n .mesh) ∷ eqb (l .correction .number) (n .mesh) ∷ []
 
 -- 1 to 4, and 6, of what it is lent
-unfoldable pub correctionChecks : Counts → List ℕ → Conditions → Fields → ℕ → Found → Answer
-correctionChecks n adjacency k l outs link =
+unfoldable pub correctionChecks : Counts → List ℕ → Conditions → Fields → ℕ → Answer
+correctionChecks n adjacency k l outs =
     orElse
     (shape (sizesOk n)
     (everyOf (conditionsSized (n .faces) (k .codes) (k .values)) (correctionSizes n adjacency l outs))
     (everyOf (eqb (k .number) (n .mesh)) (fieldNumbers n l)))
-    (links (n .cells) adjacency (k .codes) link)
-
-pub record CorrectionChecked (n : Counts) (adjacency : List ℕ) (k : Conditions) (l : Fields) (outs : ℕ) (r : Answer) : Type 0 where
-  pub link : Found
-  pub names : NamesBadLink adjacency (k .codes) link
-  pub is : r ≡ correctionChecks n adjacency k l outs link
+    (links (n .cells) adjacency (k .codes))
 
 -- the answer, and what the output holds after the call: untouched where a check refuses, +0.0 where arithmetic does
 pub record CorrectionCall (n : Counts) (adjacency : List ℕ) (k : Conditions) (l : Fields) (old : List Float) (r : Answer) (new : List Float) : Type 0 where
-  pub link : Found
-  pub names : NamesBadLink adjacency (k .codes) link
-  pub answer : r ≡ orElse (correctionChecks n adjacency k l (length old) link) (correctionAnswer (correctingBy adjacency k l))
+  pub answer : r ≡ orElse (correctionChecks n adjacency k l (length old)) (correctionAnswer (correctingBy adjacency k l))
   pub out :
-      new ≡ unless (correctionChecks n adjacency k l (length old) link) old (handedOut r (n .faces) (correctedFluxes (correctingBy adjacency k l)))
+      new ≡ unless (correctionChecks n adjacency k l (length old)) old (handedOut r (n .faces) (correctedFluxes (correctingBy adjacency k l)))
 
 -- kept and opposite fluxes, of an accepted call
 abbrev pub Promised : Answer → List ℕ → Conditions → Fields → List Float → Type 0

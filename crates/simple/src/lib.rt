@@ -11,9 +11,9 @@ ghost use Rattle.mesh.specs.Mesh.{conditions};
 ghost use Rattle.mesh.specs.Pass.{handedOut, unless};
 ghost use Rattle.chain.specs.declared.walk.Form.the-variants.{Single};
 ghost use Rattle.numerics.specs.Slices.{slices};
-ghost use Rattle.predictor.specs.Boundary.{LinksChecked, BoundaryChecked, BoundaryCall};
+ghost use Rattle.predictor.specs.Boundary.{links, boundaryChecks, BoundaryCall};
 ghost use Rattle.predictor.specs.Coefficients.{coefficientChecks, coefficientAnswer, coefficients};
-ghost use Rattle.simple.specs.Corrected.{fields, CorrectionChecked, CorrectionCall, Promised};
+ghost use Rattle.simple.specs.Corrected.{fields, correctionChecks, CorrectionCall, Promised};
 ghost use Rattle.corrector.specs.Diagonal.{diagonalChecks, inverseAnswer, inverses};
 ghost use Rattle.coupling.specs.Grid.{grid, field, gridSized};
 ghost use Rattle.corrector.specs.Metrics.{metricsChecks, MetricsCall};
@@ -111,7 +111,7 @@ pub fn pressure_face_coefficients(
 
 // The checks 4 and 6.
 fn check_links(cells: usize, adjacency: &[usize], codes: &[usize]) -> Answer
-    ensures { λ r. ⌜ LinksChecked cells (now (adjacency .entry)) (now (codes .entry)) r ⌝ }
+    ensures { λ r. ⌜ r ≡ links cells (now (adjacency .entry)) (now (codes .entry)) ⌝ }
 {
     let face = chain::lower_of(
         mesh::lowest_bad_face(cells, adjacency),
@@ -119,7 +119,7 @@ fn check_links(cells: usize, adjacency: &[usize], codes: &[usize]) -> Answer
     );
     mesh::or_else(
         mesh::at(4, face),
-        mesh::at(6, mesh::bad_link(adjacency, codes)),
+        mesh::at(6, mesh::lowest_bad_link(adjacency, codes)),
     )
 }
 
@@ -135,7 +135,7 @@ fn check_boundary(
     responses: &[f64],
     outs: usize,
 ) -> Answer
-    ensures { λ r. ⌜ BoundaryChecked counts (grid (now (adjacency .entry)) (now (geometry .entry)) (now (places .entry))) (conditions number (now (codes .entry)) (now (values .entry))) (field response (now (responses .entry))) outs r ⌝ }
+    ensures { λ r. ⌜ r ≡ boundaryChecks counts (grid (now (adjacency .entry)) (now (geometry .entry)) (now (places .entry))) (conditions number (now (codes .entry)) (now (values .entry))) (field response (now (responses .entry))) outs ⌝ }
 {
     let sized = grid_sized(counts, adjacency, geometry, places)
         & mesh::conditions_sized(counts.faces, codes, values)
@@ -365,7 +365,7 @@ fn check_correction(
     corrections: &[f64],
     outs: usize,
 ) -> Answer
-    ensures { λ r. ⌜ CorrectionChecked counts (now (adjacency .entry)) (conditions number (now (codes .entry)) (now (values .entry))) (fields (field prediction (now (predicted .entry))) (field coefficient (now (coefficients .entry))) (field correction (now (corrections .entry)))) outs r ⌝ }
+    ensures { λ r. ⌜ r ≡ correctionChecks counts (now (adjacency .entry)) (conditions number (now (codes .entry)) (now (values .entry))) (fields (field prediction (now (predicted .entry))) (field coefficient (now (coefficients .entry))) (field correction (now (corrections .entry)))) outs ⌝ }
 {
     let sized = mesh::conditions_sized(counts.faces, codes, values)
         & mesh::is_sized(adjacency.len(), 2, counts.faces)

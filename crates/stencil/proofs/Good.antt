@@ -16,7 +16,7 @@ use Rattle.mesh.proofs.Facts.{both-accepted, passed, peer-below}
 use Rattle.mesh.proofs.Good.{sized, sound}
 use Rattle.stencil.specs.Lent.{Good}
 use Rattle.numerics.specs.Slices.{Lengths, stencilSizes, stencilSized}
-use Rattle.stencil.specs.Checks.{stencilChecks, StencilChecked, lentOf}
+use Rattle.stencil.specs.Checks.{stencilChecks, lentOf}
 
 pub lent-good : (m : Mesh) (k : Conditions) → Sized m → Sound m (k .codes) → length (k .codes) ≡ 2 * (m .counts .faces) → length (k .values) ≡ 4 * (m .counts .faces) → Good (lentOf m k)
 lent-good m k z s c v = record {
@@ -41,14 +41,14 @@ pub record Passed (m : Mesh) (k : Conditions) (records : ℕ) (n : Lengths) : Ty
   pub inverses : n .inverses ≡ 9 * (m .counts .cells)
   pub small : records < 65536
 
-pub passed-checks : (m : Mesh) (k : Conditions) (records : ℕ) (n : Lengths) (r : Answer) → StencilChecked m k records n r → r ≡ Accepted → Passed m k records n
+pub passed-checks : (m : Mesh) (k : Conditions) (records : ℕ) (n : Lengths) (r : Answer) → r ≡ stencilChecks m k records n → r ≡ Accepted → Passed m k records n
 unfolding stencilChecks firstOf
 passed-checks m k records n r c e =
     let shape = meshSized m && conditionsSized (m .counts .faces) (k .codes) (k .values) in
-    let one = both-accepted (pass 1 (sizesOk (m .counts) && leb records 65535)) _ (sym (c .is) ∙ e) in
+    let one = both-accepted (pass 1 (sizesOk (m .counts) && leb records 65535)) _ (sym c ∙ e) in
     let two = both-accepted (pass 2 (shape && stencilSized (m .counts .cells) records n)) _ (one .1) in
     let three = both-accepted (pass 3 (eqb (k .number) (m .counts .mesh))) _ (two .1) in
-    let rest = both-accepted (topology m (k .codes) (c .link)) Accepted (three .1) in
+    let rest = both-accepted (topology m (k .codes)) Accepted (three .1) in
     let counts = and-true (sizesOk (m .counts)) (leb records 65535) (passed 1 _ (one .0)) in
     let all = and-true shape (stencilSized (m .counts .cells) records n) (passed 2 _ (two .0)) in
     let lengths = and-true (meshSized m) (conditionsSized (m .counts .faces) (k .codes) (k .values)) (all .0) in
@@ -57,7 +57,7 @@ passed-checks m k records n r c e =
     let z = sized m (lengths .0) in
     let few = leb-true records 65535 (counts .1) in
     record {
-      good = lent-good m k z (sound m (k .codes) (c .link) z (eqb-true _ _ (own .0)) (c .names) (rest .0)) (eqb-true _ _ (own .0)) (eqb-true _ _ (own .1));
+      good = lent-good m k z (sound m (k .codes) z (eqb-true _ _ (own .0)) (rest .0)) (eqb-true _ _ (own .0)) (eqb-true _ _ (own .1));
       starts = eqb-true _ _ (outs .0);
       equations = eqb-true _ _ (outs .1 0);
       weights = eqb-true _ _ (outs .1 1);

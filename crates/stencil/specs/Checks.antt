@@ -5,38 +5,30 @@ use mathlib.Core.Bool.{_&&_}
 use Prim.Native.Nat.{ℕ}
 use lib.Dec.{eqb, leb}
 use Rattle.mesh.specs.Answers.{pass, orElse, firstOf}
-use Rattle.mesh.specs.Checks.{sizesOk, NamesBadLink}
+use Rattle.mesh.specs.Checks.{sizesOk}
 use Rattle.mesh.specs.Mesh.{Mesh, Conditions, meshSized, conditionsSized, topology}
 use Rattle.mesh.specs.Pass.{unless}
 use Rattle.mesh.specs.declared.Answer.{Answer}
-use Rattle.chain.specs.declared.Found.{Found}
 use Rattle.numerics.specs.Slices.{Lengths, stencilSized, Slices, lengthsOf}
 use Rattle.stencil.specs.Lent.{Lent, lent}
 use Rattle.stencil.specs.Stencil.{stencilAnswer, stencilStarts, stencilEquations, stencilWeights, stencilInverses}
 
-unfoldable pub stencilChecks : Mesh → Conditions → ℕ → Lengths → Found → Answer
-stencilChecks m k records n link =
+unfoldable pub stencilChecks : Mesh → Conditions → ℕ → Lengths → Answer
+stencilChecks m k records n =
     firstOf
     (pass 1 (sizesOk (m .counts) && leb records 65535)
     ∷ pass 2 (meshSized m && conditionsSized (m .counts .faces) (k .codes) (k .values) && stencilSized (m .counts .cells) records n)
     ∷ pass 3 (eqb (k .number) (m .counts .mesh))
-    ∷ topology m (k .codes) link
+    ∷ topology m (k .codes)
     ∷ [])
-
-pub record StencilChecked (m : Mesh) (k : Conditions) (records : ℕ) (n : Lengths) (r : Answer) : Type 0 where
-  pub link : Found
-  pub names : NamesBadLink (m .adjacency) (k .codes) link
-  pub is : r ≡ stencilChecks m k records n link
 
 abbrev pub lentOf : Mesh → Conditions → Lent
 lentOf m k = lent (m .counts) (m .adjacency) (m .geometry) (m .heads) (m .places) (m .facing) (m .bordering) (k .codes) (k .values)
 
 -- the answer, and what the slices hold after the call: untouched where a check refuses, else as the stencil is handed out
 pub record StencilCall (m : Mesh) (k : Conditions) (records : ℕ) (old : Slices) (r : Answer) (new : Slices) : Type 0 where
-  pub link : Found
-  pub names : NamesBadLink (m .adjacency) (k .codes) link
-  pub answer : r ≡ orElse (stencilChecks m k records (lengthsOf old) link) (stencilAnswer (lentOf m k) records)
-  pub starts : new .starts ≡ unless (stencilChecks m k records (lengthsOf old) link) (old .starts) (stencilStarts (lentOf m k) records)
-  pub equations : new .equations ≡ unless (stencilChecks m k records (lengthsOf old) link) (old .equations) (stencilEquations (lentOf m k) records)
-  pub weights : new .weights ≡ unless (stencilChecks m k records (lengthsOf old) link) (old .weights) (stencilWeights (lentOf m k) records)
-  pub inverses : new .inverses ≡ unless (stencilChecks m k records (lengthsOf old) link) (old .inverses) (stencilInverses (lentOf m k) records)
+  pub answer : r ≡ orElse (stencilChecks m k records (lengthsOf old)) (stencilAnswer (lentOf m k) records)
+  pub starts : new .starts ≡ unless (stencilChecks m k records (lengthsOf old)) (old .starts) (stencilStarts (lentOf m k) records)
+  pub equations : new .equations ≡ unless (stencilChecks m k records (lengthsOf old)) (old .equations) (stencilEquations (lentOf m k) records)
+  pub weights : new .weights ≡ unless (stencilChecks m k records (lengthsOf old)) (old .weights) (stencilWeights (lentOf m k) records)
+  pub inverses : new .inverses ≡ unless (stencilChecks m k records (lengthsOf old)) (old .inverses) (stencilInverses (lentOf m k) records)

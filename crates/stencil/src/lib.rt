@@ -3,7 +3,7 @@ ghost use mathlib.Core.Path.{_≡_};
 ghost use lib.ListN.{length};
 ghost use Rattle.mesh.specs.Mesh.{mesh, conditions};
 ghost use Rattle.numerics.specs.Slices.{lengths, slices};
-ghost use Rattle.stencil.specs.Checks.{StencilChecked, StencilCall};
+ghost use Rattle.stencil.specs.Checks.{stencilChecks, StencilCall};
 use mesh::Answer;
 use mesh::Counts;
 
@@ -27,7 +27,7 @@ fn check_stencil(
     weights: usize,
     inverses: usize,
 ) -> Answer
-    ensures { λ r. ⌜ StencilChecked (mesh counts (now (adjacency .entry)) (now (geometry .entry)) (now (heads .entry)) (now (places .entry)) (now (facing .entry)) (now (bordering .entry))) (conditions number (now (codes .entry)) (now (values .entry))) records (lengths starts equations weights inverses) r ⌝ }
+    ensures { λ r. ⌜ r ≡ stencilChecks (mesh counts (now (adjacency .entry)) (now (geometry .entry)) (now (heads .entry)) (now (places .entry)) (now (facing .entry)) (now (bordering .entry))) (conditions number (now (codes .entry)) (now (values .entry))) records (lengths starts equations weights inverses) ⌝ }
 {
     if !(mesh::sizes_ok(counts) & (records <= 65535)) {
         return Answer::Refused(1, 0);

@@ -15,14 +15,14 @@ use Rattle.mesh.proofs.Facts.{both-accepted, shape-accepted, small}
 use Rattle.mesh.proofs.Good.{sized, sound}
 use Rattle.chain.proofs.Truth.{and-true, every-at}
 use Rattle.numerics.specs.Slices.{lengths, stencilSizes, stencilSized}
-use Rattle.step.specs.Call.{Handed, fieldSizes, fieldsSized, outputSizes, outputsSized, fieldNumbers, stepSized, stepChecks, StepChecked, OutputsFit}
+use Rattle.step.specs.Call.{Handed, fieldSizes, fieldsSized, outputSizes, outputsSized, fieldNumbers, stepSized, stepChecks, OutputsFit}
 use Rattle.scheme.specs.Step.{Given, alike, workAnswer, Lendable}
 
 pub refused-first : (a b : Answer) (k i : ℕ) → a ≡ Refused k i → Refused k i ≡ orElse a b
 unfolding orElse
 refused-first a b k i e = rw e
 
-pub passed : (d : Given) (old : Handed) (r : Answer) → StepChecked d old r → r ≡ Accepted → Lendable d × OutputsFit (d .mesh .counts) (d .records) old
+pub passed : (d : Given) (old : Handed) (r : Answer) → r ≡ stepChecks d old → r ≡ Accepted → Lendable d × OutputsFit (d .mesh .counts) (d .records) old
 unfolding stepChecks
 passed d old r c e =
     let m = d .mesh in
@@ -30,7 +30,7 @@ passed d old r c e =
     let k = d .conditions in
     let sizes = sizesOk n && leb (d .records) 65535 in
     let numbers = everyOf (eqb (k .number) (n .mesh)) (fieldNumbers d) in
-    let both = both-accepted (shape sizes (stepSized d old) numbers) (topology m (k .codes) (c .link)) (sym (c .is) ∙ e) in
+    let both = both-accepted (shape sizes (stepSized d old) numbers) (topology m (k .codes)) (sym c ∙ e) in
     let s = shape-accepted sizes (stepSized d old) numbers (both .0) in
     let counts = and-true (sizesOk n) (leb (d .records) 65535) (s .0) in
     let same = every-at (eqb (k .number) (n .mesh)) (fieldNumbers d) (s .2) in
@@ -55,7 +55,7 @@ passed d old r c e =
           codes = eqb-true _ _ (own .0);
           values = eqb-true _ _ (own .1);
           same = eqb-true _ _ (same .0);
-          sound = sound m (k .codes) (c .link) z (eqb-true _ _ (own .0)) (c .names) (both .1);
+          sound = sound m (k .codes) z (eqb-true _ _ (own .0)) (both .1);
         };
         few = leb-true (d .records) 65535 (counts .1);
         velocity = eqb-true _ _ (f .0);

@@ -8,14 +8,13 @@ use lib.ListN.{length, replicate}
 use lib.Ieee.{Float}
 use Rattle.binary64.specs.Numbers.{zero64}
 use Rattle.mesh.specs.Answers.{orElse, shape}
-use Rattle.mesh.specs.Checks.{sizesOk, NamesBadLink}
+use Rattle.mesh.specs.Checks.{sizesOk}
 use Rattle.mesh.specs.Mesh.{meshSized, conditionsSized, topology}
 use Rattle.mesh.specs.Pass.{unless}
 use Rattle.chain.specs.Search.{everyOf}
 use Rattle.mesh.specs.declared.Answer.{Answer}
 use Rattle.mesh.specs.declared.Answer.the-variants.{Accepted}
 use Rattle.mesh.specs.declared.Counts.{Counts}
-use Rattle.chain.specs.declared.Found.{Found}
 use Rattle.numerics.specs.Slices.{lengths, stencilSized}
 use Rattle.corrector.specs.Metrics.{metricsOf, metricsNumbers}
 use Rattle.scheme.specs.Step.{Given, stencilOf, gradientOf, predictedOf, coefficientsOf, fluxesOf, outflowsOf, workAnswer}
@@ -97,17 +96,12 @@ stepSized d old =
     && fieldsSized n (length (d .velocity .values)) (length (d .pressure .values)) (length (d .responses .values)) (length (d .walls .values)) (length (d .correction .values))
     && outputsSized n (d .records) old
 
-unfoldable pub stepChecks : Given → Handed → Found → Answer
-stepChecks d old link =
+unfoldable pub stepChecks : Given → Handed → Answer
+stepChecks d old =
     orElse
     (shape (sizesOk (d .mesh .counts) && leb (d .records) 65535) (stepSized d old)
     (everyOf (eqb (d .conditions .number) (d .mesh .counts .mesh)) (fieldNumbers d)))
-    (topology (d .mesh) (d .conditions .codes) link)
-
-pub record StepChecked (d : Given) (old : Handed) (r : Answer) : Type 0 where
-  pub link : Found
-  pub names : NamesBadLink (d .mesh .adjacency) (d .conditions .codes) link
-  pub is : r ≡ stepChecks d old link
+    (topology (d .mesh) (d .conditions .codes))
 
 -- ---- the outputs
 
@@ -127,10 +121,8 @@ cleared old =
 
 -- the answer, and what the outputs hold after the call: untouched where a check refuses, cleared where arithmetic does
 pub record StepCall (d : Given) (old : Handed) (r : Answer) (new : Handed) : Type 0 where
-  pub link : Found
-  pub names : NamesBadLink (d .mesh .adjacency) (d .conditions .codes) link
-  pub answer : r ≡ orElse (stepChecks d old link) (workAnswer d)
-  pub outputs : new ≡ unless (stepChecks d old link) old (unless r (cleared old) (results d))
+  pub answer : r ≡ orElse (stepChecks d old) (workAnswer d)
+  pub outputs : new ≡ unless (stepChecks d old) old (unless r (cleared old) (results d))
 
 -- what the checks establish of the outputs
 pub record OutputsFit (n : Counts) (records : ℕ) (old : Handed) : Type 0 where

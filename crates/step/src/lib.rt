@@ -3,7 +3,7 @@
 ghost use mathlib.Core.Path.{_≡_};
 ghost use Rattle.mesh.specs.Mesh.{mesh, conditions};
 ghost use Rattle.coupling.specs.Grid.{field};
-ghost use Rattle.step.specs.Call.{handed, fieldsSized, outputsSized, StepChecked, StepCall};
+ghost use Rattle.step.specs.Call.{handed, fieldsSized, outputsSized, stepChecks, StepCall};
 ghost use Rattle.scheme.specs.Demand.{Demanded};
 ghost use Rattle.scheme.specs.Step.{given};
 use mesh::Answer;
@@ -95,7 +95,7 @@ fn check_step(
     outflow: &[f64],
     metrics: &[f64],
 ) -> Answer
-    ensures { λ r. ⌜ StepChecked (given (mesh counts (now (adjacency .entry)) (now (geometry .entry)) (now (heads .entry)) (now (places .entry)) (now (facing .entry)) (now (bordering .entry))) (conditions number (now (codes .entry)) (now (values .entry))) records (field velocity (now (velocities .entry))) (field pressure (now (pressures .entry))) (field response (now (responses .entry))) (field wall (now (walls .entry))) (field correction (now (corrections .entry)))) (handed (now (starts .entry)) (now (equations .entry)) (now (weights .entry)) (now (inverses .entry)) (now (gradient .entry)) (now (predicted .entry)) (now (coefficients .entry)) (now (flux .entry)) (now (outflow .entry)) (now (metrics .entry))) r ⌝ }
+    ensures { λ r. ⌜ r ≡ stepChecks (given (mesh counts (now (adjacency .entry)) (now (geometry .entry)) (now (heads .entry)) (now (places .entry)) (now (facing .entry)) (now (bordering .entry))) (conditions number (now (codes .entry)) (now (values .entry))) records (field velocity (now (velocities .entry))) (field pressure (now (pressures .entry))) (field response (now (responses .entry))) (field wall (now (walls .entry))) (field correction (now (corrections .entry)))) (handed (now (starts .entry)) (now (equations .entry)) (now (weights .entry)) (now (inverses .entry)) (now (gradient .entry)) (now (predicted .entry)) (now (coefficients .entry)) (now (flux .entry)) (now (outflow .entry)) (now (metrics .entry))) ⌝ }
 {
     let sized = mesh::mesh_sized(
         counts,

@@ -1,15 +1,10 @@
 -- `mesh::check` meets its contract: the checks 1, 2 and 3, and after them those of the topology.
 use mathlib.Core.Path.{_≡_, refl, sym, _∙_}
 use mathlib.Core.Bool.{_&&_}
-use Prim.Native.Nat.{_/_}
-use lib.ListN.{length}
 use denote.Ref.{now}
 use borrow.Author.Tests.{eq-eqb, ne-eqb, not-true, not-false}
 use Rattle.mesh.specs.Answers.{pass, orElse, firstOf}
-use Rattle.chain.specs.Search.{lowestWhere}
-use Rattle.mesh.specs.Checks.{badLink}
 use Rattle.mesh.specs.Mesh.{mesh, topology, checks}
-use Rattle.chain.proofs.Search.{names-lowest}
 use Rattle.mesh.proofs.Facts.{or-accepted}
 use borrow.Author.Needs.{needs}
 use Rattle.mesh.proofs.check.Statement.{statement}
@@ -23,11 +18,7 @@ unfolding checks firstOf orElse pass
 returns c =
     let s : tie.Start = search in
     let z : tie.After-sizes-ok = search in
-    record {
-      link = lowestWhere (badLink (now (s .args .adjacency)) (now (s .args .codes))) (length (now (s .args .codes)) / 2);
-      names = names-lowest (badLink (now (s .args .adjacency)) (now (s .args .codes))) (length (now (s .args .codes)) / 2);
-      is = rw (← z .sizes-ok .ensures, not-true (z .sizes-ok .result) (c .if1 .taken));
-    }
+    rw (← z .sizes-ok .ensures, not-true (z .sizes-ok .result) (c .if1 .taken))
 
 mesh-sized-requires : tie.Need-mesh-sized-requires
 mesh-sized-requires c κs = search needs
@@ -43,11 +34,7 @@ returns-2 c =
     let m : tie.After-mesh-sized = search in
     let k : tie.After-conditions-sized = search in
     let e : tie.Else1 = search in
-    record {
-      link = lowestWhere (badLink (now (s .args .adjacency)) (now (s .args .codes))) (length (now (s .args .codes)) / 2);
-      names = names-lowest (badLink (now (s .args .adjacency)) (now (s .args .codes))) (length (now (s .args .codes)) / 2);
-      is = rw (← z .sizes-ok .ensures, not-false (z .sizes-ok .result) (e .if1 .left), ← m .mesh-sized .ensures, ← k .conditions-sized .ensures, not-true (m .mesh-sized .result && k .conditions-sized .result) (c .if2 .taken));
-    }
+    rw (← z .sizes-ok .ensures, not-false (z .sizes-ok .result) (e .if1 .left), ← m .mesh-sized .ensures, ← k .conditions-sized .ensures, not-true (m .mesh-sized .result && k .conditions-sized .result) (c .if2 .taken))
 
 returns-3 : tie.Need-returns-3
 unfolding checks firstOf orElse pass
@@ -58,11 +45,7 @@ returns-3 c =
     let k : tie.After-conditions-sized = search in
     let e : tie.Else1 = search in
     let d : tie.Else2 = search in
-    record {
-      link = lowestWhere (badLink (now (s .args .adjacency)) (now (s .args .codes))) (length (now (s .args .codes)) / 2);
-      names = names-lowest (badLink (now (s .args .adjacency)) (now (s .args .codes))) (length (now (s .args .codes)) / 2);
-      is = rw (← z .sizes-ok .ensures, not-false (z .sizes-ok .result) (e .if1 .left), ← m .mesh-sized .ensures, ← k .conditions-sized .ensures, not-false (m .mesh-sized .result && k .conditions-sized .result) (d .if2 .left), ne-eqb _ _ (c .if3 .taken));
-    }
+    rw (← z .sizes-ok .ensures, not-false (z .sizes-ok .result) (e .if1 .left), ← m .mesh-sized .ensures, ← k .conditions-sized .ensures, not-false (m .mesh-sized .result && k .conditions-sized .result) (d .if2 .left), ne-eqb _ _ (c .if3 .taken))
 
 check-topology-requires : tie.Need-check-topology-requires
 check-topology-requires c κs = search needs
@@ -78,11 +61,7 @@ returns-4 c =
     let d : tie.Else2 = search in
     let f : tie.Else3 = search in
     let t = c .check-topology .ensures in
-    record {
-      link = t .link;
-      names = t .names;
-      is = rw (← z .sizes-ok .ensures, not-false (z .sizes-ok .result) (e .if1 .left), ← m .mesh-sized .ensures, ← k .conditions-sized .ensures, not-false (m .mesh-sized .result && k .conditions-sized .result) (d .if2 .left), eq-eqb _ _ (f .if3 .left)) (t .is ∙ sym (or-accepted (topology (mesh (s .args .counts) (now (s .args .adjacency)) (now (s .args .geometry)) (now (s .args .heads)) (now (s .args .places)) (now (s .args .facing)) (now (s .args .bordering))) (now (s .args .codes)) (t .link))));
-    }
+    rw (← z .sizes-ok .ensures, not-false (z .sizes-ok .result) (e .if1 .left), ← m .mesh-sized .ensures, ← k .conditions-sized .ensures, not-false (m .mesh-sized .result && k .conditions-sized .result) (d .if2 .left), eq-eqb _ _ (f .if3 .left)) (t ∙ sym (or-accepted (topology (mesh (s .args .counts) (now (s .args .adjacency)) (now (s .args .geometry)) (now (s .args .heads)) (now (s .args .places)) (now (s .args .facing)) (now (s .args .bordering))) (now (s .args .codes)))))
 
 pub check-spec : {M : Type 1} → statement M
 check-spec =

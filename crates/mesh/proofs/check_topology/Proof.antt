@@ -1,16 +1,13 @@
 -- `mesh::check_topology` meets its contract: the checks 4, 5 and 6 in their order.
 use mathlib.Core.Path.{_≡_, refl, sym, _∙_}
-use Prim.Native.Nat.{_/_}
-use lib.ListN.{length}
 use denote.Ref.{now}
 use Rattle.mesh.specs.Answers.{at, orElse, firstOf}
-use Rattle.chain.specs.Search.{lowestWhere, lower}
+use Rattle.chain.specs.Search.{lower}
 use Rattle.chain.specs.Chains.{lowestBroken}
 use Rattle.chain.specs.declared.walk.Form.the-variants.{First, Second}
-use Rattle.mesh.specs.Checks.{badLink, lowestBadFace, lowestUnknownCode}
+use Rattle.mesh.specs.Checks.{lowestBadFace, lowestUnknownCode}
 use Rattle.mesh.specs.Mesh.{topology}
 use Rattle.chain.specs.declared.Found.the-variants.{At, Nothing}
-use Rattle.chain.proofs.Search.{names-lowest}
 use borrow.Author.Needs.{needs}
 use Rattle.mesh.proofs.check_topology.Statement.{statement}
 use Rattle.mesh.proofs.check_topology.Tie as tie
@@ -52,11 +49,7 @@ unfolding topology firstOf orElse at
 returns c =
     let s : tie.Start = search in
     let l : tie.After-lower-of = search in
-    record {
-      link = lowestWhere (badLink (now (s .args .adjacency)) (now (s .args .codes))) (length (now (s .args .codes)) / 2);
-      names = names-lowest (badLink (now (s .args .adjacency)) (now (s .args .codes))) (length (now (s .args .codes)) / 2);
-      is = rw (bad-faces l, c .before .face .given .1);
-    }
+    rw (bad-faces l, c .before .face .given .1)
 
 enum-told : tie.Need-enum-told
 enum-told c = search needs
@@ -80,17 +73,13 @@ returns-2 c =
     let l : tie.After-lower-of = search in
     let n : tie.After-enum-told = search in
     let r : tie.After-lower-of2 = search in
-    record {
-      link = lowestWhere (badLink (now (s .args .adjacency)) (now (s .args .codes))) (length (now (s .args .codes)) / 2);
-      names = names-lowest (badLink (now (s .args .adjacency)) (now (s .args .codes))) (length (now (s .args .codes)) / 2);
-      is = rw (bad-faces l, n .enum-told .given .1, broken-chains r, c .before .cell .given .1);
-    }
+    rw (bad-faces l, n .enum-told .given .1, broken-chains r, c .before .cell .given .1)
 
 enum-told-2 : tie.Need-enum-told-2
 enum-told-2 c = search needs
 
-bad-link-requires : tie.Need-bad-link-requires
-bad-link-requires c κs = search needs
+lowest-bad-link-requires : tie.Need-lowest-bad-link-requires
+lowest-bad-link-requires c κs = search needs
 
 enum-known-link : tie.Need-enum-known-link
 enum-known-link c = search needs
@@ -103,12 +92,8 @@ returns-3 c =
     let n : tie.After-enum-told = search in
     let r : tie.After-lower-of2 = search in
     let o : tie.After-enum-told2 = search in
-    let k : tie.After-bad-link = search in
-    record {
-      link = k .bad-link .result;
-      names = k .bad-link .ensures;
-      is = rw (bad-faces l, n .enum-told .given .1, broken-chains r, o .enum-told2 .given .1, c .before .link .given .1);
-    }
+    let k : tie.After-lowest-bad-link = search in
+    rw (bad-faces l, n .enum-told .given .1, broken-chains r, o .enum-told2 .given .1, ← k .lowest-bad-link .ensures, c .before .link .given .1)
 
 enum-told-3 : tie.Need-enum-told-3
 enum-told-3 c = search needs
@@ -121,12 +106,8 @@ returns-4 c =
     let n : tie.After-enum-told = search in
     let r : tie.After-lower-of2 = search in
     let o : tie.After-enum-told2 = search in
-    let k : tie.After-bad-link = search in
-    record {
-      link = k .bad-link .result;
-      names = k .bad-link .ensures;
-      is = rw (bad-faces l, n .enum-told .given .1, broken-chains r, o .enum-told2 .given .1, c .enum-told3 .given .1);
-    }
+    let k : tie.After-lowest-bad-link = search in
+    rw (bad-faces l, n .enum-told .given .1, broken-chains r, o .enum-told2 .given .1, ← k .lowest-bad-link .ensures, c .enum-told3 .given .1)
 
 pub check-topology-spec : {M : Type 1} → statement M
 check-topology-spec =
@@ -144,7 +125,7 @@ check-topology-spec =
     enum-known-cell
     returns-2
     enum-told-2
-    bad-link-requires
+    lowest-bad-link-requires
     enum-known-link
     returns-3
     enum-told-3

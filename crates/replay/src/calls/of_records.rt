@@ -121,5 +121,5 @@ pub(crate) fn agrees(words: &[usize], floats: &[f64], c: Call, v: Verdict) -> bo
     let answer = handed.answer;
     let gradients = handed.gradients;
     let out = flat(gradients);
-    v.is_right(words, answer) && v.has_reals(words, 0, &out)
+    v.is_right(answer) && v.has_reals(words, 0, &out)
 }

@@ -17,8 +17,8 @@ lower-of-requires c κs = search needs
 at-requires : tie.Need-at-requires
 at-requires c κs = search needs
 
-bad-link-requires : tie.Need-bad-link-requires
-bad-link-requires c κs = search needs
+lowest-bad-link-requires : tie.Need-lowest-bad-link-requires
+lowest-bad-link-requires c κs = search needs
 
 at-requires-2 : tie.Need-at-requires-2
 at-requires-2 c κs = search needs
@@ -33,13 +33,9 @@ returns c =
     let u : tie.After-lowest-unknown-code = search in
     let l : tie.After-lower-of = search in
     let a : tie.After-at = search in
-    let b : tie.After-bad-link = search in
+    let b : tie.After-lowest-bad-link = search in
     let d : tie.After-at2 = search in
-    record {
-      link = b .bad-link .result;
-      names = b .bad-link .ensures;
-      is = c .or-else .ensures ∙ rw (a .at .ensures, d .at2 .ensures, l .lower-of .ensures, f .lowest-bad-face .ensures, u .lowest-unknown-code .ensures);
-    }
+    c .or-else .ensures ∙ rw (a .at .ensures, d .at2 .ensures, b .lowest-bad-link .ensures, l .lower-of .ensures, f .lowest-bad-face .ensures, u .lowest-unknown-code .ensures)
 
 pub check-links-spec : {M : Type 1} → statement M
 check-links-spec =
@@ -49,7 +45,7 @@ check-links-spec =
     lowest-unknown-code-requires
     lower-of-requires
     at-requires
-    bad-link-requires
+    lowest-bad-link-requires
     at-requires-2
     or-else-requires
     returns)

@@ -52,13 +52,11 @@ returns c =
     let k : tie.After-check-correction = search in
     let e : tie.After-enum-told = search in
     let w : tie.After-correct-face-flux = search in
-    let a = sym (k .check-correction .ensures .is) ∙ e .enum-told .given .1 in
+    let a = sym (k .check-correction .ensures) ∙ e .enum-told .given .1 in
     let m = correctingBy (now (s .args .adjacency)) (conditionsAt s) (fieldsAt s) in
     let p = correction-passed (s .args .counts) (now (s .args .adjacency)) (conditionsAt s) (fieldsAt s) (length (now (s .args .out))) (k .check-correction .result) (k .check-correction .ensures) (e .enum-told .given .1) in
     let x = w .correct-face-flux .ensures in (
       record {
-        link = k .check-correction .ensures .link;
-        names = k .check-correction .ensures .names;
         answer = rw a (x .0);
         out = rw a (x .1 ∙ ap (λ (n : ℕ). handedOut (w .correct-face-flux .result) n (correctedFluxes m)) (p .2));
       },
@@ -69,8 +67,8 @@ returns-2 : tie.Need-returns-2
 unfolding orElse unless
 returns-2 c =
     let k : tie.After-check-correction = search in
-    let a = sym (k .check-correction .ensures .is) ∙ c .before .a .given .1 in
-    (record { link = k .check-correction .ensures .link; names = k .check-correction .ensures .names; answer = rw a; out = rw a }, λ ok. absurd (never-accepted _ _ ok))
+    let a = sym (k .check-correction .ensures) ∙ c .before .a .given .1 in
+    (record { answer = rw a; out = rw a }, λ ok. absurd (never-accepted _ _ ok))
 
 pub correct-face-flux-with-boundary-spec : {M : Type 1} → statement M
 correct-face-flux-with-boundary-spec =

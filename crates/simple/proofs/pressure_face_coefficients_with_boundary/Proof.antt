@@ -46,12 +46,10 @@ returns c =
     let k : tie.After-check-boundary = search in
     let e : tie.After-enum-told = search in
     let w : tie.After-pressure-face-coefficients-with-boundary = search in
-    let a = sym (k .check-boundary .ensures .is) ∙ e .enum-told .given .1 in
+    let a = sym (k .check-boundary .ensures) ∙ e .enum-told .given .1 in
     let o = boundary-passed (s .args .counts) (meshAt s) (conditionsAt s) (field (s .args .response) (now (s .args .responses))) (length (now (s .args .out))) (k .check-boundary .result) (k .check-boundary .ensures) (e .enum-told .given .1) .2 in
     let r = now (s .args .responses) in
     record {
-      link = k .check-boundary .ensures .link;
-      names = k .check-boundary .ensures .names;
       answer = rw a (w .pressure-face-coefficients-with-boundary .ensures .0 ∙ ap (λ (n : ℕ). boundaryAnswer (meshAt s) (boundsOf (conditionsAt s)) r n) o);
       out = rw a (w .pressure-face-coefficients-with-boundary .ensures .1 ∙ ap (λ (n : ℕ). handedOut (w .pressure-face-coefficients-with-boundary .result) n (boundaryCoefficients (meshAt s) (boundsOf (conditionsAt s)) r n)) o);
     }
@@ -60,8 +58,8 @@ returns-2 : tie.Need-returns-2
 unfolding orElse unless
 returns-2 c =
     let k : tie.After-check-boundary = search in
-    let a = sym (k .check-boundary .ensures .is) ∙ c .before .a .given .1 in
-    record { link = k .check-boundary .ensures .link; names = k .check-boundary .ensures .names; answer = rw a; out = rw a }
+    let a = sym (k .check-boundary .ensures) ∙ c .before .a .given .1 in
+    record { answer = rw a; out = rw a }
 
 pub pressure-face-coefficients-with-boundary-spec : {M : Type 1} → statement M
 pressure-face-coefficients-with-boundary-spec =

@@ -1,16 +1,11 @@
 -- `stencil::check_stencil` meets its contract: the checks 1, 2 and 3, and after them those of the topology.
 use mathlib.Core.Path.{_≡_, sym, _∙_}
 use mathlib.Core.Bool.{_&&_}
-use Prim.Native.Nat.{_/_}
 use lib.Dec.{leb}
-use lib.ListN.{length}
 use denote.Ref.{now}
 use borrow.Author.Tests.{eq-eqb, ne-eqb, not-true, not-false}
 use Rattle.mesh.specs.Answers.{pass, orElse, firstOf}
-use Rattle.chain.specs.Search.{lowestWhere}
-use Rattle.mesh.specs.Checks.{badLink}
 use Rattle.mesh.specs.Mesh.{mesh, topology}
-use Rattle.chain.proofs.Search.{names-lowest}
 use Rattle.mesh.proofs.Facts.{or-accepted}
 use Rattle.stencil.specs.Checks.{stencilChecks}
 use borrow.Author.Needs.{needs}
@@ -25,11 +20,7 @@ unfolding stencilChecks firstOf orElse pass
 returns c =
     let s : tie.Start = search in
     let z : tie.After-sizes-ok = search in
-    record {
-      link = lowestWhere (badLink (now (s .args .adjacency)) (now (s .args .codes))) (length (now (s .args .codes)) / 2);
-      names = names-lowest (badLink (now (s .args .adjacency)) (now (s .args .codes))) (length (now (s .args .codes)) / 2);
-      is = rw (← z .sizes-ok .ensures, not-true (z .sizes-ok .result && leb (s .args .records) 65535) (c .if1 .taken));
-    }
+    rw (← z .sizes-ok .ensures, not-true (z .sizes-ok .result && leb (s .args .records) 65535) (c .if1 .taken))
 
 mesh-sized-requires : tie.Need-mesh-sized-requires
 mesh-sized-requires c κs = search needs
@@ -49,11 +40,7 @@ returns-2 c =
     let k : tie.After-conditions-sized = search in
     let t : tie.After-stencil-sized = search in
     let e : tie.Else1 = search in
-    record {
-      link = lowestWhere (badLink (now (s .args .adjacency)) (now (s .args .codes))) (length (now (s .args .codes)) / 2);
-      names = names-lowest (badLink (now (s .args .adjacency)) (now (s .args .codes))) (length (now (s .args .codes)) / 2);
-      is = rw (← z .sizes-ok .ensures, not-false (z .sizes-ok .result && leb (s .args .records) 65535) (e .if1 .left), ← m .mesh-sized .ensures, ← k .conditions-sized .ensures, ← t .stencil-sized .ensures, not-true (m .mesh-sized .result && k .conditions-sized .result && t .stencil-sized .result) (c .if2 .taken));
-    }
+    rw (← z .sizes-ok .ensures, not-false (z .sizes-ok .result && leb (s .args .records) 65535) (e .if1 .left), ← m .mesh-sized .ensures, ← k .conditions-sized .ensures, ← t .stencil-sized .ensures, not-true (m .mesh-sized .result && k .conditions-sized .result && t .stencil-sized .result) (c .if2 .taken))
 
 returns-3 : tie.Need-returns-3
 unfolding stencilChecks firstOf orElse pass
@@ -65,11 +52,7 @@ returns-3 c =
     let t : tie.After-stencil-sized = search in
     let e : tie.Else1 = search in
     let d : tie.Else2 = search in
-    record {
-      link = lowestWhere (badLink (now (s .args .adjacency)) (now (s .args .codes))) (length (now (s .args .codes)) / 2);
-      names = names-lowest (badLink (now (s .args .adjacency)) (now (s .args .codes))) (length (now (s .args .codes)) / 2);
-      is = rw (← z .sizes-ok .ensures, not-false (z .sizes-ok .result && leb (s .args .records) 65535) (e .if1 .left), ← m .mesh-sized .ensures, ← k .conditions-sized .ensures, ← t .stencil-sized .ensures, not-false (m .mesh-sized .result && k .conditions-sized .result && t .stencil-sized .result) (d .if2 .left), ne-eqb _ _ (c .if3 .taken));
-    }
+    rw (← z .sizes-ok .ensures, not-false (z .sizes-ok .result && leb (s .args .records) 65535) (e .if1 .left), ← m .mesh-sized .ensures, ← k .conditions-sized .ensures, ← t .stencil-sized .ensures, not-false (m .mesh-sized .result && k .conditions-sized .result && t .stencil-sized .result) (d .if2 .left), ne-eqb _ _ (c .if3 .taken))
 
 check-topology-requires : tie.Need-check-topology-requires
 check-topology-requires c κs = search needs
@@ -86,12 +69,8 @@ returns-4 c =
     let d : tie.Else2 = search in
     let f : tie.Else3 = search in
     let g = c .check-topology .ensures in
-    let own = topology (mesh (s .args .counts) (now (s .args .adjacency)) (now (s .args .geometry)) (now (s .args .heads)) (now (s .args .places)) (now (s .args .facing)) (now (s .args .bordering))) (now (s .args .codes)) (g .link) in
-    record {
-      link = g .link;
-      names = g .names;
-      is = rw (← z .sizes-ok .ensures, not-false (z .sizes-ok .result && leb (s .args .records) 65535) (e .if1 .left), ← m .mesh-sized .ensures, ← k .conditions-sized .ensures, ← t .stencil-sized .ensures, not-false (m .mesh-sized .result && k .conditions-sized .result && t .stencil-sized .result) (d .if2 .left), eq-eqb _ _ (f .if3 .left)) (g .is ∙ sym (or-accepted own));
-    }
+    let own = topology (mesh (s .args .counts) (now (s .args .adjacency)) (now (s .args .geometry)) (now (s .args .heads)) (now (s .args .places)) (now (s .args .facing)) (now (s .args .bordering))) (now (s .args .codes)) in
+    rw (← z .sizes-ok .ensures, not-false (z .sizes-ok .result && leb (s .args .records) 65535) (e .if1 .left), ← m .mesh-sized .ensures, ← k .conditions-sized .ensures, ← t .stencil-sized .ensures, not-false (m .mesh-sized .result && k .conditions-sized .result && t .stencil-sized .result) (d .if2 .left), eq-eqb _ _ (f .if3 .left)) (g ∙ sym (or-accepted own))
 
 pub check-stencil-spec : {M : Type 1} → statement M
 check-stencil-spec =

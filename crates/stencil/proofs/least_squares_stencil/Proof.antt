@@ -47,10 +47,8 @@ returns c =
     let e : tie.After-enum-told = search in
     let w : tie.After-least-squares-stencil = search in
     let g = k .check-stencil .ensures in
-    let a = sym (g .is) ∙ e .enum-told .given .1 in
+    let a = sym g ∙ e .enum-told .given .1 in
     record {
-      link = g .link;
-      names = g .names;
       answer = rw a (w .least-squares-stencil .ensures .0);
       starts = rw a (w .least-squares-stencil .ensures .1 .0);
       equations = rw a (w .least-squares-stencil .ensures .1 .1 .0);
@@ -63,8 +61,8 @@ unfolding orElse unless
 returns-2 c =
     let k : tie.After-check-stencil = search in
     let g = k .check-stencil .ensures in
-    let a = sym (g .is) ∙ c .before .a .given .1 in
-    record { link = g .link; names = g .names; answer = rw a; starts = rw a; equations = rw a; weights = rw a; inverses = rw a }
+    let a = sym g ∙ c .before .a .given .1 in
+    record { answer = rw a; starts = rw a; equations = rw a; weights = rw a; inverses = rw a }
 
 pub least-squares-stencil-spec : {M : Type 1} → statement M
 least-squares-stencil-spec =

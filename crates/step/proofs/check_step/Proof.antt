@@ -1,14 +1,8 @@
 -- `step::check_step` meets its contract: the checks of shape, then those of the mesh.
 use Rattle.step.specs.Call.{stepChecks}
-use Rattle.chain.proofs.Search.{names-lowest}
-use Rattle.chain.specs.Search.{lowestWhere}
-use Rattle.mesh.specs.Checks.{badLink}
 use Rattle.mesh.specs.Answers.{orElse}
 use Rattle.step.proofs.Passed.{refused-first}
 use mathlib.Core.Path.{_≡_, sym, _∙_}
-use denote.Ref.{now}
-use lib.ListN.{length}
-use Prim.Native.Nat.{_/_}
 use borrow.Author.Needs.{needs}
 use Rattle.step.proofs.check_step.Statement.{statement}
 use Rattle.step.proofs.check_step.Tie as tie
@@ -76,11 +70,7 @@ returns c =
     let k = conditionsAt f in
     let m = meshAt k in
     let t = l .check-topology .ensures in
-    record {
-      link = t .link;
-      names = t .names;
-      is = rw (← z .sizes-ok .ensures, ← m .mesh-sized .ensures, ← k .conditions-sized .ensures, ← f .fields-sized .ensures, ← o .outputs-sized .ensures, ← h .shape .ensures, e .enum-told .given .1) (t .is);
-    }
+    rw (← z .sizes-ok .ensures, ← m .mesh-sized .ensures, ← k .conditions-sized .ensures, ← f .fields-sized .ensures, ← o .outputs-sized .ensures, ← h .shape .ensures, e .enum-told .given .1) t
 
 returns-2 : tie.Need-returns-2
 unfolding stepChecks orElse
@@ -92,11 +82,7 @@ returns-2 c =
     let k = conditionsAt f in
     let m = meshAt k in
     let s = startAt m in
-    record {
-      link = lowestWhere (badLink (now (s .args .adjacency)) (now (s .args .codes))) (length (now (s .args .codes)) / 2);
-      names = names-lowest (badLink (now (s .args .adjacency)) (now (s .args .codes))) (length (now (s .args .codes)) / 2);
-      is = rw (← z .sizes-ok .ensures, ← m .mesh-sized .ensures, ← k .conditions-sized .ensures, ← f .fields-sized .ensures, ← o .outputs-sized .ensures) (refused-first _ _ _ _ (sym (h .shape .ensures) ∙ c .before .a .given .1));
-    }
+    rw (← z .sizes-ok .ensures, ← m .mesh-sized .ensures, ← k .conditions-sized .ensures, ← f .fields-sized .ensures, ← o .outputs-sized .ensures) (refused-first _ _ _ _ (sym (h .shape .ensures) ∙ c .before .a .given .1))
 
 pub check-step-spec : {M : Type 1} → statement M
 check-step-spec =

@@ -94,9 +94,9 @@ returns c =
     let s = startAt k in
     let d = givenAt s in
     let p = passed d (oldAt s) _ (k .check-step .ensures) (e .enum-told .given .1) in
-    let a = sym (k .check-step .ensures .is) ∙ e .enum-told .given .1 in
+    let a = sym (k .check-step .ensures) ∙ e .enum-told .given .1 in
     let r = w .carry-out .ensures .0 ∙ same-work d in (
-      record { link = k .check-step .ensures .link; names = k .check-step .ensures .names; answer = rw a r; outputs = rw a (w .carry-out .ensures .1) },
+      record { answer = rw a r; outputs = rw a (w .carry-out .ensures .1) },
       delivered d (p .0) (λ f _. wallsAt k .shared-slice-known12 .given f) _ (oldAt s) _ r (w .carry-out .ensures .1),
     )
 
@@ -135,8 +135,8 @@ unfolding orElse unless
 returns-2 c =
     let x : tie.After-a = search in
     let k : tie.After-check-step = search in
-    let a = sym (k .check-step .ensures .is) ∙ x .a .given .1 in (
-      record { link = k .check-step .ensures .link; names = k .check-step .ensures .names; answer = refused-first _ _ _ _ a; outputs = rw a },
+    let a = sym (k .check-step .ensures) ∙ x .a .given .1 in (
+      record { answer = refused-first _ _ _ _ a; outputs = rw a },
       λ ok. absurd (never-accepted _ _ ok),
     )
 

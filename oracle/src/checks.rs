@@ -1,4 +1,4 @@
-//! A model, written from document 01, of the refusals that the port adds before arithmetic: 1 to 6.
+//! A model, written from documents 01 and 02, of the refusals that the port adds before arithmetic: 1 to 6.
 //!
 //! An entry makes only the checks of what it is lent. The counts are lent as one record, so 1 looks at
 //! all of them; at the number of equation records where a stencil is lent or handed out. Outputs are

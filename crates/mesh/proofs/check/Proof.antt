@@ -16,7 +16,6 @@ sizes-ok-requires c κs = search needs
 returns : tie.Need-returns
 unfolding checks firstOf orElse pass
 returns c =
-    let s : tie.Start = search in
     let z : tie.After-sizes-ok = search in
     rw (← z .sizes-ok .ensures, not-true (z .sizes-ok .result) (c .if1 .taken))
 
@@ -29,7 +28,6 @@ conditions-sized-requires c κs = search needs
 returns-2 : tie.Need-returns-2
 unfolding checks firstOf orElse pass
 returns-2 c =
-    let s : tie.Start = search in
     let z : tie.After-sizes-ok = search in
     let m : tie.After-mesh-sized = search in
     let k : tie.After-conditions-sized = search in
@@ -39,7 +37,6 @@ returns-2 c =
 returns-3 : tie.Need-returns-3
 unfolding checks firstOf orElse pass
 returns-3 c =
-    let s : tie.Start = search in
     let z : tie.After-sizes-ok = search in
     let m : tie.After-mesh-sized = search in
     let k : tie.After-conditions-sized = search in

@@ -47,7 +47,6 @@ enum-known-face c = search needs
 returns : tie.Need-returns
 unfolding topology firstOf orElse at
 returns c =
-    let s : tie.Start = search in
     let l : tie.After-lower-of = search in
     rw (bad-faces l, c .before .face .given .1)
 
@@ -69,7 +68,6 @@ enum-known-cell c = search needs
 returns-2 : tie.Need-returns-2
 unfolding topology firstOf orElse at
 returns-2 c =
-    let s : tie.Start = search in
     let l : tie.After-lower-of = search in
     let n : tie.After-enum-told = search in
     let r : tie.After-lower-of2 = search in
@@ -87,7 +85,6 @@ enum-known-link c = search needs
 returns-3 : tie.Need-returns-3
 unfolding topology firstOf orElse at
 returns-3 c =
-    let s : tie.Start = search in
     let l : tie.After-lower-of = search in
     let n : tie.After-enum-told = search in
     let r : tie.After-lower-of2 = search in
@@ -101,7 +98,6 @@ enum-told-3 c = search needs
 returns-4 : tie.Need-returns-4
 unfolding topology firstOf orElse at
 returns-4 c =
-    let s : tie.Start = search in
     let l : tie.After-lower-of = search in
     let n : tie.After-enum-told = search in
     let r : tie.After-lower-of2 = search in

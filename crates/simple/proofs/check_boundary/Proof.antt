@@ -41,7 +41,6 @@ returns c =
 returns-2 : tie.Need-returns-2
 unfolding boundaryChecks orElse
 returns-2 c =
-    let s : tie.Start = search in
     let z : tie.After-sizes-ok = search in
     let g : tie.After-grid-sized = search in
     let k : tie.After-conditions-sized = search in

@@ -5,9 +5,6 @@ use borrow.Author.Needs.{needs}
 use Rattle.simple.proofs.check_correction.Statement.{statement}
 use Rattle.simple.proofs.check_correction.Tie as tie
 
-abbrev startAt : tie.After-conditions-sized → tie.Start
-startAt c = search
-
 abbrev sizedAt : tie.After-shape → tie.After-is-sized
 sizedAt c = search
 
@@ -48,7 +45,6 @@ unfolding correctionChecks orElse
 returns-2 c =
     let z : tie.After-sizes-ok = search in
     let k : tie.After-conditions-sized = search in
-    let s = startAt k in
     let h : tie.After-shape = search in
     let w = sizedAt h in
     rw (← z .sizes-ok .ensures, ← k .conditions-sized .ensures, ← w .is-sized .ensures, ← h .shape .ensures, c .before .a .given .1)

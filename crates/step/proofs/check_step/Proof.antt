@@ -7,9 +7,6 @@ use borrow.Author.Needs.{needs}
 use Rattle.step.proofs.check_step.Statement.{statement}
 use Rattle.step.proofs.check_step.Tie as tie
 
-abbrev startAt : tie.After-mesh-sized → tie.Start
-startAt c = search
-
 abbrev meshAt : tie.After-conditions-sized → tie.After-mesh-sized
 meshAt c = search
 
@@ -81,7 +78,6 @@ returns-2 c =
     let f = fieldsAt o in
     let k = conditionsAt f in
     let m = meshAt k in
-    let s = startAt m in
     rw (← z .sizes-ok .ensures, ← m .mesh-sized .ensures, ← k .conditions-sized .ensures, ← f .fields-sized .ensures, ← o .outputs-sized .ensures) (refused-first _ _ _ _ (sym (h .shape .ensures) ∙ c .before .a .given .1))
 
 pub check-step-spec : {M : Type 1} → statement M

@@ -1,4 +1,4 @@
-/* Calls whose answers follow from document 01, and the roots of the stored list. */
+/* Calls whose answers follow from documents 01 and 02, and the roots of the stored list. */
 #include "call.h"
 #include "judge.h"
 #include "report.h"

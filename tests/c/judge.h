@@ -1,4 +1,4 @@
-/* Calls held against stored lines, and calls whose answers stand in document 01. */
+/* Calls held against stored lines, and calls whose answers stand in documents 01 and 02. */
 #ifndef JUDGE_H
 #define JUDGE_H
 

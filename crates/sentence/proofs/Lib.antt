@@ -1,0 +1,4 @@
+pub mod Decimal
+pub mod Place
+pub mod Table
+pub mod Distinct

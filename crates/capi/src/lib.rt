@@ -19,6 +19,7 @@ ghost use Rattle.coupling.specs.Grid.{grid, field};
 ghost use Rattle.corrector.specs.Metrics.{MetricsCall};
 ghost use Rattle.predictor.specs.Prediction.{lent, PredictionCall};
 ghost use Rattle.corrector.specs.Velocity.{velocityChecks, velocityAnswer, correctedVelocities};
+ghost use Rattle.sentence.specs.Sentence.{SentenceCall};
 ghost use Rattle.scheme.specs.Demand.{Demanded};
 ghost use Rattle.scheme.specs.Step.{given};
 ghost use Rattle.step.specs.Call.{handed, StepCall};
@@ -50,6 +51,14 @@ pub extern "C" fn juvandeer_sqrt(x: f64) -> f64
     ensures { λ r. ⌜ r ≡ root x ⌝ }
 {
     binary64::sqrt(x)
+}
+
+// `sentence::sentence`.
+#[no_mangle]
+pub extern "C" fn juvandeer_refusal_sentence(number: u64, index: usize, out: &mut [u8]) -> usize
+    ensures call { λ r. ⌜ SentenceCall number index (now (out .entry)) r (now (out .exit)) ⌝ }
+{
+    sentence::sentence(number, index, out)
 }
 
 // `stencil::least_squares_stencil`.

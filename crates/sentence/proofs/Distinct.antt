@@ -1,7 +1,7 @@
 -- Two refusals never share a sentence: the index and the number are read back from it. Assumes nothing.
 use mathlib.Core.Path.{_≡_, refl, sym, ap, _∙_}
 use mathlib.Core.List.{List, [], _∷_, _++_}
-use mathlib.Core.Bool.{Bool, true, false, _&&_, cond}
+use mathlib.Core.Bool.{Bool, true, false, _&&_, cond, false≢true}
 use Prim.Native.Nat.{ℕ, zero, suc, _+_, _-_, _*_, _/_, _%_, _<_}
 use native.Mathlib.Omega.{arith}
 use native.Mathlib.Nat.{mod-lt, div-add-mod'}
@@ -11,7 +11,7 @@ use lib.ListN.{length, take, length-append}
 use lib.Seq.{take-at}
 use Rattle.sentence.specs.Sentence.{ascii, digits, decimal, numbers, isKnown, sentence, NeverShared}
 use Rattle.sentence.specs.Rows.{opening, opened}
-use Rattle.sentence.proofs.Table.{never, and-true, every, each, opens}
+use Rattle.sentence.proofs.Table.{every, each, opens}
 
 isDigit : ℕ → Bool
 isDigit x = leb 48 x && ltb x 58
@@ -39,7 +39,7 @@ read-on a (x ∷ xs) ys h = go (eqb x 46) (isDigit x) h (λ p. read-on (a * 10 +
         → (noStop xs ≡ true → read (a * 10 + (x - 48)) (xs ++ ys) ≡ read (after (a * 10 + (x - 48)) xs) ys)
         → (noStop xs ≡ true → read 0 (xs ++ ys) ≡ read (after 0 xs) ys)
         → cond s a (cond d (read (a * 10 + (x - 48)) (xs ++ ys)) (read 0 (xs ++ ys))) ≡ read (cond d (after (a * 10 + (x - 48)) xs) (after 0 xs)) ys
-    go true d h p q = absurd (never h)
+    go true d h p q = absurd (false≢true h)
     go false true h p q = p h
     go false false h p q = q h
 
@@ -97,32 +97,27 @@ unfolding read
 read-decimal i = read-on 0 (decimal i) (ascii ".") (digits-stop (suc i) i) ∙ value (suc i) i (omega arith)
 
 -- ---- the rows: an opening has no full stop, no digits at its end, and is its number's alone
-isRead : ℕ → Bool
-isRead k = noStop (opening k) && (eqb (after 0 (opening k)) 0 && eqb (opened (opening k)) k)
+are-stopless : every (λ k. noStop (opening k)) numbers ≡ true
+unfolding every noStop
+are-stopless = refl
 
-are-read : every isRead numbers ≡ true
-unfolding every isRead noStop after isDigit
-are-read = refl
+are-ended : every (λ k. eqb (after 0 (opening k)) 0) numbers ≡ true
+unfolding every after isDigit
+are-ended = refl
 
-record Read (k : ℕ) : Type 0 where
-  stopless : noStop (opening k) ≡ true
-  ended : after 0 (opening k) ≡ 0
-  back : opened (opening k) ≡ k
+are-told-apart : every (λ k. eqb (opened (opening k)) k) numbers ≡ true
+unfolding every
+are-told-apart = refl
 
-row : (k : ℕ) → isKnown k ≡ true → Read k
-unfolding isRead
-row k e =
-    let w = and-true (noStop (opening k)) (eqb (after 0 (opening k)) 0 && eqb (opened (opening k)) k) (each isRead numbers are-read k e) in
-    let v = and-true (eqb (after 0 (opening k)) 0) (eqb (opened (opening k)) k) (w .1) in
-    record { stopless = w .0; ended = eqb-true (after 0 (opening k)) 0 (v .0); back = eqb-true (opened (opening k)) k (v .1) }
+number-back : (k : ℕ) → isKnown k ≡ true → opened (opening k) ≡ k
+number-back k e = eqb-true (opened (opening k)) k (each (λ k. eqb (opened (opening k)) k) numbers are-told-apart k e)
 
 -- ---- the sentence
 index-back : (k i : ℕ) → isKnown k ≡ true → read 0 (sentence k i) ≡ i
 index-back k i e =
-    let r = row k e in
     ap (read 0) (opens k i e)
-    ∙ read-on 0 (opening k) (decimal i ++ ascii ".") (r .stopless)
-    ∙ ap (λ (a : ℕ). read a (decimal i ++ ascii ".")) (r .ended)
+    ∙ read-on 0 (opening k) (decimal i ++ ascii ".") (each (λ k. noStop (opening k)) numbers are-stopless k e)
+    ∙ ap (λ (a : ℕ). read a (decimal i ++ ascii ".")) (eqb-true (after 0 (opening k)) 0 (each (λ k. eqb (after 0 (opening k)) 0) numbers are-ended k e))
     ∙ read-decimal i
 
 cancel : (p q t : List ℕ) → p ++ t ≡ q ++ t → p ≡ q
@@ -134,4 +129,4 @@ pub never-shared : NeverShared
 never-shared k j i h e f s =
     let same : i ≡ h = sym (index-back k i e) ∙ ap (read 0) s ∙ index-back j h f in
     let openings : opening k ≡ opening j = cancel (opening k) (opening j) (decimal i ++ ascii ".") (sym (opens k i e) ∙ s ∙ opens j h f ∙ ap (λ (n : ℕ). opening j ++ (decimal n ++ ascii ".")) (sym same)) in
-    (sym (row k e .back) ∙ ap opened openings ∙ row j f .back, same)
+    (sym (number-back k e) ∙ ap opened openings ∙ number-back j f, same)

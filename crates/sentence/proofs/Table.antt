@@ -1,7 +1,7 @@
 -- The table: what is computed of every row holds of each, and what a row's text says of its number. Assumes nothing.
 use mathlib.Core.Path.{_≡_, refl, sym, ap, _∙_}
 use mathlib.Core.List.{List, [], _∷_, _++_, append-assoc}
-use mathlib.Core.Bool.{Bool, true, false, _&&_, cond}
+use mathlib.Core.Bool.{Bool, true, false, cond, false≢true}
 use Prim.Native.Nat.{ℕ, _+_, _<_, _≤_}
 use native.Mathlib.Omega.{arith}
 use borrow.Author.Tests.{eqb-true, ne-eqb, eq-eqb, leb-true}
@@ -11,25 +11,18 @@ use Rattle.sentence.specs.Sentence.{ascii, decimal, numbers, isAmong, is
 use Rattle.sentence.proofs.Decimal.{at-most}
 use Rattle.sentence.specs.Rows.{opening, same, firstOpened, opened, groups, AlsoNoneOf, NoneOf}
 
-pub never : false ≡ true → ⊥
-never e = let z : _≡_ {A = ℕ} 0 1 = cc in omega arith
-
-pub and-true : (a b : Bool) → (a && b) ≡ true → (a ≡ true) × (b ≡ true)
-and-true true b e = (refl, e)
-and-true false b e = absurd (never e)
-
 same-text : (xs ys : List ℕ) → same xs ys ≡ true → xs ≡ ys
 same-text [] [] e = refl
-same-text [] (y ∷ ys) e = absurd (never e)
-same-text (x ∷ xs) [] e = absurd (never e)
+same-text [] (y ∷ ys) e = absurd (false≢true e)
+same-text (x ∷ xs) [] e = absurd (false≢true e)
 same-text (x ∷ xs) (y ∷ ys) e = go (eqb x y) refl e (λ p. same-text xs ys p)
   where
     go : (b : Bool) → eqb x y ≡ b → cond b (same xs ys) false ≡ true → (same xs ys ≡ true → xs ≡ ys) → x ∷ xs ≡ y ∷ ys
     go true q e r = rw (eqb-true x y q) (ap (λ (t : List ℕ). y ∷ t) (r e))
-    go false q e r = absurd (never e)
+    go false q e r = absurd (false≢true e)
 
 -- a number that a text opens is in the list, and the text is its opening
-pub row-found : (ks text : List ℕ) (n : ℕ) → n ≡ firstOpened ks text → 0 < n → (isAmong ks n ≡ true) × (text ≡ opening n)
+row-found : (ks text : List ℕ) (n : ℕ) → n ≡ firstOpened ks text → 0 < n → (isAmong ks n ≡ true) × (text ≡ opening n)
 row-found [] text n e h = absurd (omega (arith, e))
 row-found (k ∷ ks) text n e h = go (same text (opening k)) refl e (λ p. row-found ks text n p h)
   where
@@ -73,16 +66,18 @@ grouped = refl
 -- ---- what is computed of every row
 unfoldable pub every : (ℕ → Bool) → List ℕ → Bool
 every g [] = true
-every g (k ∷ ks) = g k && every g ks
+every g (k ∷ ks) = cond (g k) (every g ks) false
 
 pub each : (g : ℕ → Bool) (ks : List ℕ) → every g ks ≡ true → (n : ℕ) → isAmong ks n ≡ true → g n ≡ true
 unfolding every
-each g [] e n h = absurd (never h)
-each g (k ∷ ks) e n h = let w = and-true (g k) (every g ks) e in go (eqb n k) refl h (w .0) (λ p. each g ks (w .1) n p)
+each g [] e n h = absurd (false≢true h)
+each g (k ∷ ks) e n h = go (g k) refl e (eqb n k) refl h (λ p q. each g ks p n q)
   where
-    go : (b : Bool) → eqb n k ≡ b → cond b true (isAmong ks n) ≡ true → g k ≡ true → (isAmong ks n ≡ true → g n ≡ true) → g n ≡ true
-    go true q h f r = ap g (eqb-true n k q) ∙ f
-    go false q h f r = r h
+    go : (a : Bool) → g k ≡ a → cond a (every g ks) false ≡ true → (b : Bool) → eqb n k ≡ b → cond b true (isAmong ks n) ≡ true
+        → (every g ks ≡ true → isAmong ks n ≡ true → g n ≡ true) → g n ≡ true
+    go true f e true q h r = ap g (eqb-true n k q) ∙ f
+    go true f e false q h r = r e h
+    go false f e b q h r = absurd (false≢true e)
 
 are-short : every (λ k. leb (length (opening k)) 20) numbers ≡ true
 unfolding every
@@ -107,17 +102,20 @@ told k i text old r new e h n w =
 
 pub untold : (k i : ℕ) (old : List ℕ) → NoneOf groups k → SentenceCall k i old 0 old
 unfolding sentence written
-untold k i old h = let e : isKnown k ≡ false = ap (λ (ks : List ℕ). isAmong ks k) (sym grouped) ∙ absent groups k h in record { needs = rw e; leaves = rw (e, leb·zero (length old)) }
+untold k i old h =
+    let e : isKnown k ≡ false = ap (λ (ks : List ℕ). isAmong ks k) (sym grouped) ∙ absent groups k h in
+    record { needs = rw e; leaves = rw (e, leb·zero (length old)) }
 
 -- ---- how long a sentence can be
 pub at-most-41 : Short
 unfolding sentence
-at-most-41 k i h = go (isKnown k) refl
+at-most-41 k i h = let most = go (isKnown k) refl in omega (arith, most)
   where
     go : (b : Bool) → isKnown k ≡ b → length (sentence k i) ≤ 41
     go false e = rw e (omega arith)
     go true e =
         let d : length (decimal i) ≤ 20 = at-most 19 i (omega (arith, h)) in
         let o = leb-true (length (opening k)) 20 (each (λ k. leb (length (opening k)) 20) numbers are-short k e) in
-        let l : length (sentence k i) ≡ length (opening k) + (length (decimal i) + 1) = ap length (opens k i e) ∙ length-append (opening k) (decimal i ++ ascii ".") ∙ ap (λ (n : ℕ). length (opening k) + n) (length-append (decimal i) (ascii ".")) in
+        let w : length (decimal i ++ ascii ".") ≡ length (decimal i) + 1 = length-append (decimal i) (ascii ".") in
+        let l : length (sentence k i) ≡ length (opening k) + length (decimal i ++ ascii ".") = ap length (opens k i e) ∙ length-append (opening k) (decimal i ++ ascii ".") in
         omega arith

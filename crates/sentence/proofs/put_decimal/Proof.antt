@@ -1,11 +1,10 @@
+-- `sentence::put_decimal` meets its contract. Assumes nothing.
 use mathlib.Core.Path.{_≡_, refl}
 use native.Mathlib.Omega.{arith}
 use lib.ListN.{length, length-set}
 use Rattle.sentence.proofs.Place.{Spelled, begun, spelled-more, spelled-all}
 use Rattle.sentence.proofs.put_decimal.Statement.{statement}
 use Rattle.sentence.proofs.put_decimal.Tie as tie
-use Rattle.sentence.proofs.put_decimal.Reads as reads
-use Rattle.sentence.proofs.put_decimal.Lts as lts
 
 abbrev Inv-loop : tie.InvT-loop
 Inv-loop n at end out₀ rest₀ place₀ out rest place = Spelled out₀ at end n rest place out × (length out ≡ length out₀)

@@ -1,3 +1,4 @@
+-- `sentence::put_phrase` meets its contract. Assumes nothing.
 use mathlib.Core.List.{_++_}
 use mathlib.Core.Path.{_≡_, refl, _∙_, ap}
 use Prim.Native.Nat.{_-_, _≤_}
@@ -10,8 +11,6 @@ use denote.Ref.{now}
 use Rattle.sentence.proofs.Place.{copied-more}
 use Rattle.sentence.proofs.put_phrase.Statement.{statement}
 use Rattle.sentence.proofs.put_phrase.Tie as tie
-use Rattle.sentence.proofs.put_phrase.Reads as reads
-use Rattle.sentence.proofs.put_phrase.Lts as lts
 
 abbrev Inv-loop : tie.InvT-loop
 Inv-loop phrase out₀ i₀ out i = (i ≤ length phrase) × (length out ≡ length out₀) × (out ≡ take i phrase ++ drop i out₀)

@@ -1,3 +1,4 @@
+-- `sentence::tell` meets its contract. Assumes nothing.
 use mathlib.Core.Path.{sym, ap}
 use mathlib.Core.List.{[], _∷_, _++_}
 use Prim.Native.Nat.{_+_}
@@ -10,11 +11,6 @@ use Rattle.sentence.proofs.Table.{short, told}
 use borrow.Author.Needs.{needs}
 use Rattle.sentence.proofs.tell.Statement.{statement}
 use Rattle.sentence.proofs.tell.Tie as tie
-use Rattle.sentence.proofs.tell.Reads as reads
-use Rattle.sentence.proofs.tell.Lts as lts
-use Rattle.sentence.proofs.put_decimal.Reads as put-decimal-reads
-use Rattle.sentence.proofs.put_phrase.Reads as put-phrase-reads
-use Rattle.sentence.proofs.width.Reads as width-reads
 
 width-requires : tie.Need-width-requires
 width-requires c κs = search needs

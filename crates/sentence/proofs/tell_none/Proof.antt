@@ -1,8 +1,7 @@
+-- `sentence::tell_none` meets its contract. Assumes nothing.
 use Rattle.sentence.proofs.Table.{untold}
 use Rattle.sentence.proofs.tell_none.Statement.{statement}
 use Rattle.sentence.proofs.tell_none.Tie as tie
-use Rattle.sentence.proofs.tell_none.Reads as reads
-use Rattle.sentence.proofs.tell_none.Lts as lts
 
 returns : tie.Need-returns
 returns c = untold (c .args .number) (c .args .index) _ (c .pre)

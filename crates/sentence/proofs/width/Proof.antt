@@ -1,3 +1,4 @@
+-- `sentence::width` meets its contract. Assumes nothing.
 use mathlib.Core.Path.{_≡_}
 use Prim.Native.Nat.{_+_, _≤_}
 use native.Mathlib.Omega.{arith}
@@ -6,8 +7,6 @@ use Rattle.sentence.specs.Sentence.{decimal}
 use Rattle.sentence.proofs.Decimal.{length-one, length-more, at-most}
 use Rattle.sentence.proofs.width.Statement.{statement}
 use Rattle.sentence.proofs.width.Tie as tie
-use Rattle.sentence.proofs.width.Reads as reads
-use Rattle.sentence.proofs.width.Lts as lts
 
 abbrev Inv-loop : tie.InvT-loop
 Inv-loop n digits₀ rest₀ digits rest = (digits + length (decimal rest) ≡ length (decimal n) + 1) × (length (decimal n) ≤ 20)

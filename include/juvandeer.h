@@ -66,6 +66,7 @@ struct juvandeer_counts {
 };
 
 /* What a call returns, and what `*index` then is. An accepted call leaves 0 in `*index`.
+ * juvandeer_refusal_sentence makes a sentence of the two.
  *
  * 1 to 3 (shape) and 4 to 6 (mesh) are tested first, in this order, and leave every output untouched.
  * The others are met within arithmetic, in its own order, and leave +0.0, in whole numbers 0, in every
@@ -113,6 +114,20 @@ static inline int juvandeer_environment_is_default(void)
 
 /* The float nearest to the square root of x, as IEEE 754 has it. Never refuses. */
 double juvandeer_sqrt(double x);
+
+/* The sentence of a refusal, for a learner to read: a phrase for its number, ` at `, the index in decimal
+ * and a full stop, in ASCII, without a line end or a NUL: `bad link at 7.` docs/REFUSALS.md says of each
+ * what is wrong and what to do.
+ *
+ *   in   number and index of a refusal
+ *   out  out, of any length: the sentence at its start where all of it fits, and the bytes after it as
+ *        they were; else untouched
+ *
+ * Returns the bytes that the sentence needs, also where out has fewer: at most 41. A number that is no
+ * refusal's, as 0, has no sentence and needs 0. Never refuses.
+ *
+ * Proved of any two refusals: where number or index differ, so do the sentences. */
+size_t juvandeer_refusal_sentence(uint64_t number, size_t index, uint8_t *out, size_t out_len);
 
 /* Builds the least-squares stencil of each cell from its faces and neighbours: the equations, and the
  * inverse of their normal matrix. It is the stencil that juvandeer_least_squares_gradient takes.

@@ -12,6 +12,9 @@ void judge_coverage(void);
 /* A line of crates/roots/stdin: a number and its root. */
 void judge_root(char *line);
 
+/* A line of crates/sentences/stdout: a refusal, and a slice that its sentence was to be written into. */
+void judge_sentence(char *line);
+
 void judge_counts(void);
 
 void judge_links(void);

@@ -1,6 +1,7 @@
 /* Calls every function of include/juvandeer.h. Its arguments are the stored lines on calls of entries,
- * of crates/edges/stdout, and the stored list of roots, crates/roots/stdin: what it expects comes from
- * the original Rust and from MPFR, not from the engine. Writes `N passed, 0 failed`, or what is wrong. */
+ * of crates/edges/stdout, the stored list of roots, crates/roots/stdin, and the lines on sentences,
+ * crates/sentences/stdout: what it expects comes from the original Rust, from MPFR and from document 02,
+ * not from the engine. Writes `N passed, 0 failed`, or what is wrong. */
 #include "judge.h"
 #include "report.h"
 
@@ -45,12 +46,13 @@ static void judge_file(const char *path, void (*judge)(char *line))
 
 int main(int count, char **arguments)
 {
-    if (count != 3)
-        fail("two arguments are needed, the lines on entries and the list of roots");
+    if (count != 4)
+        fail("three arguments are needed, the lines on entries, the list of roots, the lines on sentences");
     judge_environment();
     judge_file(arguments[1], judge_line);
     judge_coverage();
     judge_file(arguments[2], judge_root);
+    judge_file(arguments[3], judge_sentence);
     judge_counts();
     judge_links();
     judge_room();

@@ -21,11 +21,19 @@ pub(crate) struct Counts {
 
 extern "C" {
     fn juvandeer_sqrt(x: f64) -> f64;
+    fn juvandeer_refusal_sentence(number: u64, index: usize, out: *mut u8, _: usize) -> usize;
 }
 
 pub(crate) fn sqrt(x: f64) -> f64 {
     // SAFETY: takes and returns a number, and touches no memory.
     unsafe { juvandeer_sqrt(x) }
+}
+
+/// Writes the sentence of a refusal where it fits; how many bytes it needs.
+pub(crate) fn refusal_sentence(number: u64, index: usize, out: &mut [u8]) -> usize {
+    // SAFETY: the pointer is that of a slice, borrowed for the call alone, and stands with its length; the
+    // library is proved to stay within it.
+    unsafe { juvandeer_refusal_sentence(number, index, out.as_mut_ptr(), out.len()) }
 }
 
 /// The answer of a call that is given the place of the index.

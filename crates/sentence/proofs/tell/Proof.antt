@@ -60,7 +60,7 @@ returns c =
     let spelled = decimal (s .args .index) in
     let n = needed text spelled _ (w .width .ensures .0) in
     let put = in-place (now (s .args .out)) text spelled _ (ap (λ n. length text + n) (sym (w .width .ensures .0))) (omega arith) in
-    told (s .args .number) (s .args .index) text _ _ _ (s .pre .0) (s .pre .1) n (fits-in _ _ _ (omega arith) (rw (d .put-decimal .ensures, p .put-phrase .ensures) put))
+    told (s .args .number) (s .args .index) text _ _ _ (s .pre .0) (s .pre .1) (omega (arith, n)) (fits-in _ _ _ (omega arith) (rw (d .put-decimal .ensures, p .put-phrase .ensures) put))
 
 returns-2 : tie.Need-returns-2
 returns-2 c =
@@ -68,7 +68,7 @@ returns-2 c =
     let w : tie.After-width = search in
     let text = now (s .args .phrase) in
     let n = needed text (decimal (s .args .index)) _ (w .width .ensures .0) in
-    told (s .args .number) (s .args .index) text _ _ _ (s .pre .0) (s .pre .1) n (no-room _ _ (omega arith))
+    told (s .args .number) (s .args .index) text _ _ _ (s .pre .0) (s .pre .1) (omega (arith, n)) (no-room _ _ (omega arith))
 
 pub tell-spec : {M : Type 1} → statement M
 tell-spec =

@@ -1,5 +1,6 @@
 //! What is printed of a run.
 
+use crate::advice::advice;
 use crate::number::{bits, decimal};
 use crate::run::{Outcome, Refused};
 use engine::balance::{Amount, Balance, CellBalance};
@@ -28,15 +29,16 @@ pub fn outcome(outcome: &Outcome) -> String {
     text
 }
 
-/// A refusal: its number, the index and the engine's function, then the reason.
+/// A refusal: the engine's sentence; number, index and the engine's function; what is wrong; what to do.
 pub fn refusal(refused: &Refused) -> String {
-    let number = refused.refusal.kind.number();
-    let sentence = refused.refusal.to_string();
-    let start = format!("refusal {number}: ");
-    let reason = sentence.strip_prefix(&start).unwrap_or(&sentence);
+    let refusal = &refused.refusal;
     format!(
-        "refusal {number} index {} by {}\n{reason}\n",
-        refused.refusal.index, refused.by
+        "{refusal}\nrefusal {} index {} by {}\n{}\n{}\n",
+        refusal.kind.number(),
+        refusal.index,
+        refused.by,
+        refusal.reason(),
+        advice(refused)
     )
 }
 

@@ -166,7 +166,8 @@ fn a_refused_sheet_marks_nothing() {
     let (sheet, _) = changed(&shipped("two-cell"), "0  0.5", "0  0");
     let fluxes = path("sheet/tests/correction.sheet");
     let (output, error, status) = told(&["-", "--check", fluxes.to_str().unwrap()], &sheet);
-    assert!(output.starts_with("refusal 9 index 0 by correct_face_flux_with_boundary\n"));
+    let expected = "bad coefficient at 0.\nrefusal 9 index 0 by correct_face_flux_with_boundary\n";
+    assert!(output.starts_with(expected), "{output}");
     assert_eq!((error.as_str(), status), ("", 3));
 }
 

@@ -2,7 +2,9 @@
 
 mod common;
 
-use common::{changed, correction_sheet, listed, metrics, printed, step_sheet, stored, told};
+use common::{
+    changed, correction_sheet, listed, metrics, printed, step_sheet, stored, told, CUBES,
+};
 
 /// The fluxes, the outflows and the metrics that are printed of a sheet.
 fn results(sheet: &str) -> [Vec<u64>; 3] {
@@ -128,91 +130,6 @@ fn a_uniform_field_and_a_default_are_taken_everywhere_else() {
     let expected = [2.0, -1.0, 1.0, -4.0, 0.1, 0.2, -0.3];
     assert_eq!(flux, expected.map(f64::to_bits));
 }
-
-#[test]
-fn a_refusal_is_the_result_of_a_sheet() {
-    let (sheet, _) = changed(&step_sheet(), "6    fixed-value 2", "6    absent");
-    let expected =
-        "refusal 10 index 6 by step\nface 6 has one cell and neither a link nor a condition\n";
-    assert_eq!(
-        told(&["-"], &sheet),
-        (expected.to_string(), String::new(), 3)
-    );
-    let sheet = step_sheet().replace("momentum-response\n0  0.5", "momentum-diagonal\n0  0");
-    let (output, _, status) = told(&["-"], &sheet);
-    assert!(
-        output.starts_with("refusal 11 index 0 by momentum_inverse_diagonal\n"),
-        "{output}"
-    );
-    assert_eq!(status, 3);
-    let (sheet, _) = changed(&correction_sheet(), "0-1  1", "0-1  -1");
-    let (output, _, status) = told(&["-"], &sheet);
-    assert!(
-        output.starts_with("refusal 12 index 0 by continuity_metrics\n"),
-        "{output}"
-    );
-    assert_eq!(status, 3);
-    let (sheet, _) = changed(&correction_sheet(), "1 2  2 0", "1 1  2 0");
-    let (output, _, status) = told(&["-"], &sheet);
-    assert!(
-        output.starts_with("refusal 6 index 1 by correct_face_flux_with_boundary\n"),
-        "{output}"
-    );
-    assert_eq!(status, 3);
-}
-
-#[test]
-fn of_several_bad_links_the_lowest_face_is_told() {
-    // faces 5 and 4 to themselves, and face 6 with face 0, which has two cells
-    for (links, lowest) in [
-        ("5 5  2 0\n4 4  2 0\n1 2  2 0", 4),
-        ("5 5  2 0\n6 0  2 0", 0),
-    ] {
-        for (sheet, call) in [
-            (step_sheet(), "step"),
-            (correction_sheet(), "correct_face_flux_with_boundary"),
-        ] {
-            let (sheet, _) = changed(&sheet, "1 2  2 0", links);
-            let (output, _, status) = told(&["-"], &sheet);
-            let expected = format!(
-                "refusal 6 index {lowest} by {call}\nface {lowest} has a link but two cells, or is linked to \
-                 itself, to a missing face or to one that is not linked back\n"
-            );
-            assert_eq!((output, status), (expected, 3));
-        }
-    }
-}
-
-/// Two unit cubes in space, by their geometry.
-const CUBES: &str = "\
-form step
-dimension 3
-faces
-0  0 1  1 0.5 0.5    1 0 0
-1  0 -  0 0.5 0.5   -1 0 0   -1 0 0
-2  1 -  2 0.5 0.5    1 0 0
-3  0 -  0.5 0.5 0    0 0 -1
-4  1 -  1.5 0.5 0    0 0 -1
-5  0 -  0.5 0.5 1    0 0 1
-6  1 -  1.5 0.5 1    0 0 1
-7  0 -  0.5 0 0.5    0 -1 0
-8  1 -  1.5 0 0.5    0 -1 0
-9  0 -  0.5 1 0.5    0 1 0   0 1 0
-10  1 -  1.5 1 0.5   0 1 0
-cells
-0  0.5 0.5 0.5  1
-1  1.5 0.5 0.5  1
-conditions uniform zero-gradient
-velocity uniform 3 0 0
-pressure uniform 7
-momentum-response uniform 0.5
-wall-flux default 0
-1  -3
-2   3
-pressure-correction
-0  0
-1  1
-";
 
 /// P7 of document 01: between unit cubes of response 0.5 the coefficient is 0.5. The flux of a velocity of 3 is
 /// 3, and the correction takes 0.5 (1 - 0) from it.

@@ -104,7 +104,12 @@ fn tried(bytes: &[u8]) -> bool {
         Ok(sheet) => {
             match sheet.run() {
                 Ok(outcome) => assert!(report::outcome(&outcome).ends_with("together\n")),
-                Err(refused) => assert!(report::refusal(&refused).starts_with("refusal ")),
+                Err(refused) => {
+                    let printed = report::refusal(&refused);
+                    assert_eq!(printed.lines().count(), 4);
+                    let sentence = refused.refusal.sentence().unwrap();
+                    assert!(printed.starts_with(&format!("{sentence}\nrefusal ")));
+                }
             }
             true
         }
@@ -214,5 +219,8 @@ fn large_counts() {
     assert_eq!(told(&["-"], &again).2, 4);
     let (output, _, status) = told(&["-"], "form correction\ndimension 2\nfaces\ncells\npredicted-flux\nface-coefficient\npressure-correction\n");
     assert_eq!(status, 3);
-    assert!(output.starts_with("refusal 1 index 0 by "), "{output}");
+    assert!(
+        output.starts_with("bad size at 0.\nrefusal 1 index 0 by "),
+        "{output}"
+    );
 }

@@ -1,5 +1,6 @@
 //! What the engine answers where it does not accept.
 
+use crate::ffi;
 use std::error::Error;
 use std::fmt;
 
@@ -21,7 +22,8 @@ pub enum RefusalKind {
     BrokenChain,
     /// 6: a link stands on a face with two cells, or its peer is itself, missing, or not linked back.
     BadLink,
-    /// 7: the centres of a face's two cells, or of a face and its cell, are too near to each other.
+    /// 7: the centres of a face's two cells, of its cell and the one beyond its link, or of its cell and the
+    /// face are too near to each other or at no finite distance.
     DegenerateDistance,
     /// 8: a cell's equations do not fix its gradient.
     SingularLeastSquaresStencil,
@@ -90,27 +92,45 @@ impl Refusal {
             index,
         }
     }
+
+    /// The engine's sentence, as `bad link at 7.`; none where the number is outside the engine's table.
+    /// Refusals that differ in number or index never have the same.
+    pub fn sentence(&self) -> Option<String> {
+        let (number, index) = (self.kind.number(), self.index);
+        let mut text = vec![0; ffi::refusal_sentence(number, index, &mut [])];
+        ffi::refusal_sentence(number, index, &mut text);
+        let sentence = String::from_utf8(text).ok();
+        sentence.filter(|sentence| !sentence.is_empty())
+    }
+
+    /// What is wrong, in words.
+    pub fn reason(&self) -> String {
+        let index = self.index;
+        match self.kind {
+            RefusalKind::Size => "the mesh has no cell, over 65,535 cells, faces, chain entries or equation records, or there is too little room for the stencil's equations".to_string(),
+            RefusalKind::Length => "a field or another slice has more or fewer values than the mesh asks for".to_string(),
+            RefusalKind::MeshMismatch => "a field, the conditions or the stencil belong to another mesh".to_string(),
+            RefusalKind::BadFace => format!("face {index} names a cell that is not there, has its owner as neighbour, or has an unknown condition code"),
+            RefusalKind::BrokenChain => format!("cell {index} has a broken chain of faces, neighbours or equations"),
+            RefusalKind::BadLink => format!("face {index} has a link but two cells, or is linked to itself, to a missing face or to one that is not linked back"),
+            RefusalKind::DegenerateDistance => format!("face {index} has centres that are too near to each other or at no finite distance: of its two cells, of its cell and the one beyond its link, or of its cell and itself"),
+            RefusalKind::SingularLeastSquaresStencil => format!("cell {index} has too few equations in different directions to fix a gradient"),
+            RefusalKind::InvalidPressureFaceCoefficient if index == 0 => "face 0 has a coefficient that is not finite or not above 0 or a flux that is not finite, or an outflow or a metric is not finite".to_string(),
+            RefusalKind::InvalidPressureFaceCoefficient => format!("face {index} has a coefficient that is not finite or not above 0, or a flux that is not finite"),
+            RefusalKind::MissingBoundaryCondition => format!("face {index} has one cell and neither a link nor a condition"),
+            RefusalKind::InvalidMomentumDiagonal => format!("cell {index} has a momentum diagonal or response that is not finite or not above 0, or a velocity that is not finite"),
+            RefusalKind::InvalidCellMeasure => format!("cell {index} has a volume that is not finite or not above 0"),
+            RefusalKind::Other(number) => format!("{number} is a number that these bindings do not know"),
+        }
+    }
 }
 
+/// The engine's sentence; where it has none, the number and the index.
 impl fmt::Display for Refusal {
     fn fmt(&self, f: &mut fmt::Formatter<'_>) -> fmt::Result {
-        let index = self.index;
-        write!(f, "refusal {}: ", self.kind.number())?;
-        match self.kind {
-            RefusalKind::Size => f.write_str("the mesh has no cell, over 65,535 cells, faces, chain entries or equation records, or there is too little room for the stencil's equations"),
-            RefusalKind::Length => f.write_str("a field or another slice has more or fewer values than the mesh asks for"),
-            RefusalKind::MeshMismatch => f.write_str("a field, the conditions or the stencil belong to another mesh"),
-            RefusalKind::BadFace => write!(f, "face {index} names a cell that is not there, has its owner as neighbour, or has an unknown condition code"),
-            RefusalKind::BrokenChain => write!(f, "cell {index} has a broken chain of faces, neighbours or equations"),
-            RefusalKind::BadLink => write!(f, "face {index} has a link but two cells, or is linked to itself, to a missing face or to one that is not linked back"),
-            RefusalKind::DegenerateDistance => write!(f, "face {index} has centres too near to each other, of its two cells or of itself and its cell"),
-            RefusalKind::SingularLeastSquaresStencil => write!(f, "cell {index} has too few equations in different directions to fix a gradient"),
-            RefusalKind::InvalidPressureFaceCoefficient if index == 0 => f.write_str("face 0 has a coefficient that is not finite or not above 0 or a flux that is not finite, or an outflow or a metric is not finite"),
-            RefusalKind::InvalidPressureFaceCoefficient => write!(f, "face {index} has a coefficient that is not finite or not above 0, or a flux that is not finite"),
-            RefusalKind::MissingBoundaryCondition => write!(f, "face {index} has one cell and neither a link nor a condition"),
-            RefusalKind::InvalidMomentumDiagonal => write!(f, "cell {index} has a momentum diagonal or response that is not finite or not above 0, or a velocity that is not finite"),
-            RefusalKind::InvalidCellMeasure => write!(f, "cell {index} has a volume that is not finite or not above 0"),
-            RefusalKind::Other(_) => write!(f, "a kind that these bindings do not know, at index {index}"),
+        match self.sentence() {
+            Some(sentence) => f.write_str(&sentence),
+            None => write!(f, "number {}, index {}", self.kind.number(), self.index),
         }
     }
 }

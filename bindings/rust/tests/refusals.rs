@@ -262,19 +262,45 @@ fn conditions_are_lent_as_the_header_says() {
 }
 
 #[test]
-fn numbers_kinds_and_sentences_fit() {
+fn numbers_kinds_and_reasons_fit() {
     for number in 0..20 {
         assert_eq!(RefusalKind::from_number(number).number(), number);
     }
     assert_eq!(RefusalKind::from_number(13), RefusalKind::Other(13));
-    let at = |number| Refusal::new(number, 17).to_string();
+    let at = |number| Refusal::new(number, 17).reason();
     for number in [4, 6, 7, 9, 10] {
-        assert!(at(number).starts_with(&format!("refusal {number}: face 17 ")));
+        assert!(at(number).starts_with("face 17 "));
     }
     for number in [5, 8, 11, 12] {
-        assert!(at(number).starts_with(&format!("refusal {number}: cell 17 ")));
+        assert!(at(number).starts_with("cell 17 "));
     }
     for number in [1, 2, 3] {
         assert!(!at(number).contains("17"));
     }
+}
+
+/// Lines `NUMBER INDEX exact: needs BYTES |SENTENCE|`, written from document 02.
+#[test]
+fn sentences_are_the_stored_ones() {
+    let stored = include_str!("../../../crates/sentences/stdout");
+    let exact = stored.lines().filter(|line| line.contains(" exact: "));
+    let mut told = 0;
+    for line in exact {
+        let (refusal, slice) = line.split_once(" exact: needs ").unwrap();
+        let (number, index) = refusal.split_once(' ').unwrap();
+        let refusal = Refusal::new(number.parse().unwrap(), index.parse().unwrap());
+        let (_, sentence) = slice.strip_suffix('|').unwrap().split_once(" |").unwrap();
+        if sentence.is_empty() {
+            assert_eq!(refusal.sentence(), None, "{line}");
+            assert_eq!(
+                refusal.to_string(),
+                format!("number {number}, index {index}")
+            );
+        } else {
+            assert_eq!(refusal.sentence().as_deref(), Some(sentence), "{line}");
+            assert_eq!(refusal.to_string(), sentence);
+            told += 1;
+        }
+    }
+    assert_eq!(told, 12 * 4);
 }

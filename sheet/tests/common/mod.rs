@@ -33,6 +33,37 @@ pub fn correction_sheet() -> String {
     fs::read_to_string(own("correction.sheet")).unwrap()
 }
 
+/// Two unit cubes in space, by their geometry.
+pub const CUBES: &str = "\
+form step
+dimension 3
+faces
+0  0 1  1 0.5 0.5    1 0 0
+1  0 -  0 0.5 0.5   -1 0 0   -1 0 0
+2  1 -  2 0.5 0.5    1 0 0
+3  0 -  0.5 0.5 0    0 0 -1
+4  1 -  1.5 0.5 0    0 0 -1
+5  0 -  0.5 0.5 1    0 0 1
+6  1 -  1.5 0.5 1    0 0 1
+7  0 -  0.5 0 0.5    0 -1 0
+8  1 -  1.5 0 0.5    0 -1 0
+9  0 -  0.5 1 0.5    0 1 0   0 1 0
+10  1 -  1.5 1 0.5   0 1 0
+cells
+0  0.5 0.5 0.5  1
+1  1.5 0.5 0.5  1
+conditions uniform zero-gradient
+velocity uniform 3 0 0
+pressure uniform 7
+momentum-response uniform 0.5
+wall-flux default 0
+1  -3
+2   3
+pressure-correction
+0  0
+1  1
+";
+
 /// A file beside the tests.
 pub fn own(name: &str) -> PathBuf {
     Path::new(env!("CARGO_MANIFEST_DIR"))

@@ -1,4 +1,4 @@
-//! The Rust's functions over what is lent, with answers in the numbers of document 01.
+//! The Rust's functions over what is lent, with answers in the numbers of docs/REFUSALS.md.
 
 mod counting;
 

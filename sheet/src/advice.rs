@@ -24,6 +24,7 @@ fn coefficient(by: &str, index: usize) -> String {
     match by {
         "correct_face_flux_with_boundary" => format!("look at face {index}: its `face-coefficient` has to be finite and above 0, and its `predicted-flux` and the `pressure-correction` of its cells so small that its flux stays finite"),
         "continuity_metrics" => "take smaller fluxes: an outflow, its square or its quotient with the volume is not finite; 0 names no face".to_string(),
+        _ if index == 0 => "look at face 0 as at any such face (area vector out of its owner, responses above 0); where it is sound, look at every face and cell for values of velocity, pressure, wall flux or correction that are not finite, or so large that a flux or an outflow is not".to_string(),
         _ => format!("look at face {index}: its area vector has to lead out of its owner, towards the other side, the responses of its cells have to be above 0, and velocity, pressure, wall flux and correction so small that fluxes and outflows stay finite"),
     }
 }

@@ -68,6 +68,12 @@ fn refused() -> Vec<(String, [&'static str; 4])> {
             "look at face 3: its `face-coefficient` has to be finite and above 0, and its `predicted-flux` and the `pressure-correction` of its cells so small that its flux stays finite",
         ]),
         // face 4 has a zero gradient, and keeps its flux
+        (step("4  -0.6", "4  inf"), [
+            "bad coefficient at 0.",
+            "refusal 9 index 0 by step",
+            "face 0 has a coefficient that is not finite or not above 0 or a flux that is not finite, or an outflow or a metric is not finite",
+            "look at face 0 as at any such face (area vector out of its owner, responses above 0); where it is sound, look at every face and cell for values of velocity, pressure, wall flux or correction that are not finite, or so large that a flux or an outflow is not",
+        ]),
         (correction("4   0.1", "4   inf"), [
             "bad coefficient at 0.",
             "refusal 9 index 0 by continuity_metrics",

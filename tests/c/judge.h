@@ -15,6 +15,8 @@ void judge_root(char *line);
 /* A line of crates/sentences/stdout: a refusal, and a slice that its sentence was to be written into. */
 void judge_sentence(char *line);
 
+void judge_digits(void);
+
 void judge_counts(void);
 
 void judge_links(void);

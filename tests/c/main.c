@@ -53,6 +53,7 @@ int main(int count, char **arguments)
     judge_coverage();
     judge_file(arguments[2], judge_root);
     judge_file(arguments[3], judge_sentence);
+    judge_digits();
     judge_counts();
     judge_links();
     judge_room();

@@ -26,6 +26,21 @@ static void hold_sentence(const char *line, uint64_t number, size_t index, size_
     passed++;
 }
 
+/* Around every power of ten of 64 bits the index is what printf writes. */
+void judge_digits(void)
+{
+    char line[ROOM], left[ROOM];
+    size_t power = 1;
+    for (int digits = 1; digits <= 20; digits++) {
+        for (size_t index = power - 1; index <= power + 1; index++) {
+            int needs = snprintf(left, sizeof left, "bad link at %zu.", index);
+            snprintf(line, sizeof line, "6 at %zu", index);
+            hold_sentence(line, 6, index, (size_t)needs, left, (size_t)needs);
+        }
+        power *= 10;
+    }
+}
+
 void judge_sentence(char *line)
 {
     uint64_t number;

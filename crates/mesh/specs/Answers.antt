@@ -1,4 +1,4 @@
--- What an answer is in document 01: a number, 0 where the call is accepted, and an index. Definitions only.
+-- What an answer is in docs/REFUSALS.md: a number, 0 where the call is accepted, and an index. Definitions only.
 use mathlib.Core.List.{List, [], _∷_}
 use mathlib.Core.Bool.{Bool, true, false}
 use Prim.Native.Nat.{ℕ}

@@ -1,4 +1,4 @@
--- The checks 1, 4 and 6 of document 01. Definitions only.
+-- The checks 1, 4 and 6 of docs/REFUSALS.md. Definitions only.
 use mathlib.Core.Path.{_≡_}
 use mathlib.Core.List.{List, [], _∷_}
 use mathlib.Core.Bool.{Bool, true, false, not, _||_, cond}

@@ -1,4 +1,4 @@
--- A mesh and its conditions as they are lent, and the checks of them in the order of document 01. Definitions only.
+-- A mesh and its conditions as they are lent, and the checks of them in the order of docs/REFUSALS.md. Definitions only.
 use mathlib.Core.Path.{_≡_}
 use mathlib.Core.List.{List, [], _∷_}
 use mathlib.Core.Bool.{Bool, _&&_}

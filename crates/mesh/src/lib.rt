@@ -54,7 +54,7 @@ pub struct Link {
     pub translation: Vec3,
 }
 
-// An entry's answer: a refusal has document 01's number and index.
+// An entry's answer: a refusal has a number and an index, docs/REFUSALS.md.
 pub enum Answer {
     Accepted,
     Refused(u64, usize),
@@ -261,7 +261,7 @@ pub fn check_topology(
     Answer::Accepted
 }
 
-// Every check of a mesh with its conditions and links, in the order of document 01. `number` is the
+// Every check of a mesh with its conditions and links, in the order of docs/REFUSALS.md. `number` is the
 // mesh number of the conditions.
 pub fn check(
     counts: Counts,

@@ -1,4 +1,4 @@
--- The checks of an entry that builds a stencil, in the order of document 01, and what it answers and leaves. Definitions only.
+-- The checks of an entry that builds a stencil, in the order of docs/REFUSALS.md, and what it answers and leaves. Definitions only.
 use mathlib.Core.Path.{_≡_}
 use mathlib.Core.List.{[], _∷_}
 use mathlib.Core.Bool.{_&&_}

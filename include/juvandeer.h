@@ -115,6 +115,9 @@ static inline int juvandeer_environment_is_default(void)
 /* The float nearest to the square root of x, as IEEE 754 has it. Never refuses. */
 double juvandeer_sqrt(double x);
 
+/* The bytes of the longest sentence. */
+enum { JUVANDEER_SENTENCE_LONGEST = 41 };
+
 /* The sentence of a refusal, for a learner to read: a phrase for its number, ` at `, the index in decimal
  * and a full stop, in ASCII, without a line end or a NUL: `bad link at 7.` docs/REFUSALS.md says of each
  * what is wrong and what to do.
@@ -123,8 +126,9 @@ double juvandeer_sqrt(double x);
  *   out  out, of any length: the sentence at its start where all of it fits, and the bytes after it as
  *        they were; else untouched
  *
- * Returns the bytes that the sentence needs, also where out has fewer: at most 41. A number that is no
- * refusal's, as 0, has no sentence and needs 0. Never refuses.
+ * Returns the bytes that the sentence needs, also where out has fewer; they are at most
+ * JUVANDEER_SENTENCE_LONGEST. A number that is no refusal's, as 0, has no sentence and needs 0. Never
+ * refuses.
  *
  * Proved of any two refusals: where number or index differ, so do the sentences. */
 size_t juvandeer_refusal_sentence(uint64_t number, size_t index, uint8_t *out, size_t out_len);

@@ -9,6 +9,8 @@
 
 enum { ROOM = 64 };
 
+static size_t longest;
+
 /* The call writes into the first `length` bytes of a larger slice, of which the rest stays. */
 static void hold_sentence(const char *line, uint64_t number, size_t index, size_t needs, const char *left,
     size_t length)
@@ -18,6 +20,8 @@ static void hold_sentence(const char *line, uint64_t number, size_t index, size_
     size_t answer = juvandeer_refusal_sentence(number, index, out, length);
     if (answer != needs)
         fail("%s: needs %zu", line, answer);
+    if (answer > longest)
+        longest = answer;
     if (memcmp(out, left, length))
         fail("%s: the slice is %.*s", line, (int)length, (const char *)out);
     for (size_t i = length; i < sizeof out; i++)
@@ -26,7 +30,8 @@ static void hold_sentence(const char *line, uint64_t number, size_t index, size_
     passed++;
 }
 
-/* Around every power of ten of 64 bits the index is what printf writes. */
+/* Around every power of ten of 64 bits the index is what printf writes; then, of all sentences so far, the
+ * longest is that of the header. */
 void judge_digits(void)
 {
     char line[ROOM], left[ROOM];
@@ -39,6 +44,8 @@ void judge_digits(void)
         }
         power *= 10;
     }
+    if (longest != JUVANDEER_SENTENCE_LONGEST)
+        fail("the longest sentence needs %zu bytes, by the header %d", longest, JUVANDEER_SENTENCE_LONGEST);
 }
 
 void judge_sentence(char *line)

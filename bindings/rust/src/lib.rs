@@ -3,7 +3,7 @@
 //!
 //! A [`Mesh`] is built from faces and cells or from points; [`Conditions`] and fields are made for it; the
 //! engine's functions are methods of the mesh. What the engine does not accept is a [`Refusal`], with the face
-//! or the cell.
+//! or the cell, which is printed as the engine's sentence.
 //!
 //! The two-cell sheet: face 0 joins cells 0 and 1, faces 1 and 2 belong to one cell each and have a zero
 //! gradient.

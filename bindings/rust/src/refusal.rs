@@ -93,8 +93,15 @@ impl Refusal {
         }
     }
 
-    /// The engine's sentence, as `bad link at 7.`; none where the number is outside the engine's table.
-    /// Refusals that differ in number or index never have the same.
+    /// The engine's sentence; none where the number is outside the engine's table. Refusals that differ in
+    /// number or index never have the same.
+    ///
+    /// ```
+    /// use juvandeer::Refusal;
+    /// let refusal = Refusal::new(6, 7);
+    /// assert_eq!(refusal.sentence().as_deref(), Some("bad link at 7."));
+    /// assert_eq!(refusal.to_string(), "bad link at 7.");
+    /// ```
     pub fn sentence(&self) -> Option<String> {
         let (number, index) = (self.kind.number(), self.index);
         let mut text = vec![0; ffi::refusal_sentence(number, index, &mut [])];

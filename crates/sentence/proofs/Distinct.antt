@@ -1,14 +1,12 @@
 -- Two refusals never share a sentence: the index and the number are read back from it. Assumes nothing.
 use mathlib.Core.Path.{_≡_, refl, sym, ap, _∙_}
-use mathlib.Core.List.{List, [], _∷_, _++_}
+use mathlib.Core.List.{List, [], _∷_, _++_, append-cancel-right}
 use mathlib.Core.Bool.{Bool, true, false, _&&_, cond, false≢true}
 use Prim.Native.Nat.{ℕ, zero, suc, _+_, _-_, _*_, _/_, _%_, _<_}
 use native.Mathlib.Omega.{arith}
 use native.Mathlib.Nat.{mod-lt, div-add-mod'}
 use borrow.Author.Tests.{ltb-true, ltb-false, lt-ltb, le-leb, ne-eqb, eqb-true}
 use lib.Dec.{eqb, leb, ltb}
-use lib.ListN.{length, take, length-append}
-use lib.Seq.{take-at}
 use Rattle.sentence.specs.Sentence.{ascii, digits, decimal, numbers, isKnown, sentence, NeverShared}
 use Rattle.sentence.specs.Rows.{opening, opened}
 use Rattle.sentence.proofs.Table.{every, each, opens}
@@ -120,13 +118,8 @@ index-back k i e =
     ∙ ap (λ (a : ℕ). read a (decimal i ++ ascii ".")) (eqb-true (after 0 (opening k)) 0 (each (λ k. eqb (after 0 (opening k)) 0) numbers are-ended k e))
     ∙ read-decimal i
 
-cancel : (p q t : List ℕ) → p ++ t ≡ q ++ t → p ≡ q
-cancel p q t e =
-    let n : length p ≡ length q = omega (arith, length-append p t, length-append q t, ap length e) in
-    sym (take-at p t (length p) refl) ∙ ap (take (length p)) e ∙ take-at q t (length p) (sym n)
-
 pub never-shared : NeverShared
 never-shared k j i h e f s =
     let same : i ≡ h = sym (index-back k i e) ∙ ap (read 0) s ∙ index-back j h f in
-    let openings : opening k ≡ opening j = cancel (opening k) (opening j) (decimal i ++ ascii ".") (sym (opens k i e) ∙ s ∙ opens j h f ∙ ap (λ (n : ℕ). opening j ++ (decimal n ++ ascii ".")) (sym same)) in
+    let openings : opening k ≡ opening j = append-cancel-right (opening k) (opening j) (decimal i ++ ascii ".") (sym (opens k i e) ∙ s ∙ opens j h f ∙ ap (λ (n : ℕ). opening j ++ (decimal n ++ ascii ".")) (sym same)) in
     (sym (number-back k e) ∙ ap opened openings ∙ number-back j f, same)

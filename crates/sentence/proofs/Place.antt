@@ -1,6 +1,6 @@
 -- The bytes of a slice as a sentence is written: digits from the last to the first, a phrase from its start, then all of it. Assumes nothing.
 use mathlib.Core.Path.{_≡_, refl, sym, ap, _∙_}
-use mathlib.Core.List.{List, [], _∷_, _++_, append-assoc}
+use mathlib.Core.List.{List, [], _∷_, _++_, append-assoc, append-nil}
 use Prim.Native.Nat.{ℕ, zero, suc, _+_, _-_, _/_, _%_, _<_, _≤_}
 use native.Mathlib.Omega.{arith}
 use native.Mathlib.Numerals.{sub-one}
@@ -29,10 +29,6 @@ begun old at end n e = record {
   where
     less : end - at ≡ length (decimal n)
     less = omega arith
-
-    append-nil : (l : List ℕ) → l ++ [] ≡ l
-    append-nil [] = refl
-    append-nil (x ∷ l) = ap (λ (t : List ℕ). x ∷ t) (append-nil l)
 
 put : (old done tail : List ℕ) (p d : ℕ) → p < length old → set (take (suc p) old ++ (done ++ tail)) p d ≡ take p old ++ ((d ∷ done) ++ tail)
 put old done tail p d h =

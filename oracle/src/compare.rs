@@ -303,7 +303,7 @@ pub fn patterned(entry: Entry, lent: &Lent) -> Slices {
     outputs
 }
 
-/// What the port is to answer: the checks of document 01, then the Rust.
+/// What the port is to answer: the checks of docs/REFUSALS.md, then the Rust.
 pub fn expected(entry: Entry, lent: &Lent, outputs: &Slices) -> Outcome {
     match checks::check(entry, lent, outputs) {
         Some(refusal) => Outcome::Refused(refusal),

@@ -4,7 +4,8 @@ use crate::ffi;
 use std::error::Error;
 use std::fmt;
 
-/// Why a call was refused. The numbers are those of the engine's own list.
+/// Why a call was refused. The numbers are the engine's; docs/REFUSALS.md of the repository has what each
+/// means and what to do about it.
 #[derive(Clone, Copy, Debug, PartialEq, Eq, Hash)]
 #[non_exhaustive]
 pub enum RefusalKind {

@@ -53,7 +53,8 @@ fn indices(number: u64) {
     slices(number, 18446744073709551615);
 }
 
-// The numbers of the table and those beside it, then some whose last 8, 16 or 32 bits are those of 1.
+// The numbers of the table and those beside it, then some whose last 8, 16 or 32 bits are those of 1, and
+// the largest.
 fn main() {
     indices(0);
     indices(1);

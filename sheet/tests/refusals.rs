@@ -2,10 +2,7 @@
 
 mod common;
 
-use common::{changed, correction_sheet, step_sheet, text, told, CUBES};
-
-/// Numbers that the program sees to itself: fields are whole and of one mesh, faces name cells, chains end.
-const NOT_MET: [u64; 4] = [2, 3, 4, 5];
+use common::{changed, correction_sheet, step_sheet, text, told, CUBES, NOT_MET};
 
 /// A sheet without a cell.
 const EMPTY: &str = "form correction\ndimension 2\nfaces\ncells\npredicted-flux\nface-coefficient\npressure-correction\n";

@@ -3,7 +3,7 @@
 
 mod common;
 
-use common::{own, printed, shipped, step_sheet, told, SHIPPED};
+use common::{own, printed, shipped, step_sheet, told, NOT_MET, SHIPPED};
 use sheet::{check, polymesh, report, Sheet};
 use std::fs;
 
@@ -89,7 +89,8 @@ fn swap_lines(bytes: &mut Vec<u8>, numbers: &mut Numbers) {
     *bytes = lines.join(&b'\n');
 }
 
-/// Reads and runs a file, and gives whether it was read.
+/// Reads and runs a file, and gives whether it was read. A refusal is told in four lines, and is none that the
+/// program sees to itself.
 fn tried(bytes: &[u8]) -> bool {
     match Sheet::read(bytes) {
         Err(mistake) => {
@@ -107,6 +108,10 @@ fn tried(bytes: &[u8]) -> bool {
                 Err(refused) => {
                     let printed = report::refusal(&refused);
                     assert_eq!(printed.lines().count(), 4);
+                    assert!(
+                        !NOT_MET.contains(&refused.refusal.kind.number()),
+                        "{printed}"
+                    );
                     let sentence = refused.refusal.sentence().unwrap();
                     assert!(printed.starts_with(&format!("{sentence}\nrefusal ")));
                 }

@@ -10,6 +10,9 @@ use std::process::{Command, Output, Stdio};
 /// The sheets that are shipped.
 pub const SHIPPED: [&str; 4] = ["two-cell", "duct-with-bend", "annulus", "block"];
 
+/// Refusals that the program sees to itself: fields are whole and of one mesh, faces name cells, chains end.
+pub const NOT_MET: [u64; 4] = [2, 3, 4, 5];
+
 /// A path of the repository.
 pub fn path(name: &str) -> PathBuf {
     Path::new(env!("CARGO_MANIFEST_DIR")).join("..").join(name)

@@ -22,7 +22,7 @@ fn wall_flux(condition: Condition, predicted: f64, k: f64, own: f64) -> Outcome
 }
 
 // The flux of the face f: by its neighbour, else by its link, else by its condition.
-fn flux_at(
+pub fn flux_at(
     adjacency: &[usize],
     codes: &[usize],
     values: &[f64],

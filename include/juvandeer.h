@@ -13,7 +13,8 @@
  *   denormals-are-zero. juvandeer_environment_is_default() finds out.
  *
  * Everything else is tested: counts, mesh numbers, indices and chains may be anything, and a slice may
- * be longer or shorter than it is due. What outputs hold before a call does not matter.
+ * be longer or shorter than it is due. What outputs hold before a call does not matter, but for the one
+ * that is read too, the flux of juvandeer_correct_face_flux_in_place.
  *
  * A mesh is lent as counts and slices. Faces and cells count from 0; records count from 1, and a next
  * record of 0 ends a chain.
@@ -305,6 +306,30 @@ uint64_t juvandeer_correct_face_flux_with_boundary(
     uint64_t correction,
     const double *corrections, size_t corrections_len,
     double *out, size_t out_len,
+    size_t *index);
+
+/* The same in one slice: flux holds the predicted flux before the call and the corrected flux after it,
+ * read and written. Answer, refusals and fluxes are bit for bit those of the function above, save that
+ * what that leaves untouched is here the predicted flux.
+ *
+ *   in      adjacency 2 x faces; number before codes 2 x faces and values 4 x faces; coefficient before
+ *           coefficients 1 x faces; correction before corrections 1 x cells
+ *   in out  prediction before flux 1 x faces
+ *
+ * Refusals: 1 to 4 and 6, flux as it was; 9 and 10 at a face, flux +0.0 throughout, the predicted flux
+ * lost. */
+uint64_t juvandeer_correct_face_flux_in_place(
+    struct juvandeer_counts counts,
+    const size_t *adjacency, size_t adjacency_len,
+    uint64_t number,
+    const size_t *codes, size_t codes_len,
+    const double *values, size_t values_len,
+    uint64_t coefficient,
+    const double *coefficients, size_t coefficients_len,
+    uint64_t correction,
+    const double *corrections, size_t corrections_len,
+    uint64_t prediction,
+    double *flux, size_t flux_len,
     size_t *index);
 
 /* The corrected velocity of each cell: velocity - response x gradient.

@@ -6,7 +6,7 @@ use crate::compare::patterned;
 use crate::entry::{Entry, Part};
 use crate::lent::Lent;
 use crate::makers::{self, Walls};
-use crate::port::Port;
+use crate::port::{Answer, Port};
 use crate::random::Random;
 use flursys::simple::access::continuity_metrics;
 use flursys::LeastSquaresGradientStencil;
@@ -25,7 +25,8 @@ pub fn run(port: &Port) {
     root(port);
     println!(
         "\nns per face. The Rust allocates its outputs in each call; the port's are lent and hold what its\n\
-         last call left, nothing clears them before."
+         last call left, nothing clears them before. The correction in one slice is repeated on what it left,\n\
+         and beside it stands the Rust's only correction."
     );
     for (name, made) in [
         ("127x129 quads", makers::quads(127, 129)),
@@ -138,7 +139,8 @@ fn entry_times(port: &Port, entry: Entry, lent: &Lent) -> [Option<f64>; 2] {
         Some(call) => {
             let mut outputs = patterned(entry, lent);
             let mut repeated = || {
-                black_box(call(black_box(lent), &mut outputs));
+                let answer = call(black_box(lent), &mut outputs);
+                assert_eq!(answer, Answer::Accepted, "{}", entry.name());
             };
             least([&mut rust, &mut repeated]).map(|time| Some(time / faces))
         }
@@ -189,13 +191,15 @@ fn rust_call(entry: Entry, lent: &Lent) -> Box<dyn FnMut()> {
         Entry::RhieChowPredictedFlux => repeat!(flursys::rhie_chow_predicted_flux(
             &mesh, &velocity, &pressure, &responses, &stencil, &walls
         )),
-        Entry::CorrectFaceFluxWithBoundary => repeat!(flursys::correct_face_flux_with_boundary(
-            &mesh,
-            &predicted,
-            &coefficients,
-            &correction,
-            &conditions
-        )),
+        Entry::CorrectFaceFluxWithBoundary | Entry::CorrectFaceFluxInPlace => {
+            repeat!(flursys::correct_face_flux_with_boundary(
+                &mesh,
+                &predicted,
+                &coefficients,
+                &correction,
+                &conditions
+            ))
+        }
         Entry::CorrectCellVelocityFromGradient => {
             repeat!(flursys::correct_cell_velocity_from_gradient(
                 &mesh, &velocity, &responses, &gradient

@@ -74,6 +74,7 @@ pub fn is_copied(entry: Entry, part: Part, at: usize, lent: &Lent) -> bool {
     };
     match (entry, part) {
         (_, Part::Weights) => at % 4 == 3,
+        (Entry::CorrectFaceFluxInPlace, Part::Predicted) => kept(at),
         (_, Part::Predicted) => one_cell(at),
         (Entry::CorrectFaceFluxWithBoundary | Entry::Step, Part::Flux) => kept(at),
         _ => false,
@@ -98,6 +99,7 @@ pub fn run(entry: Entry, lent: &Lent) -> Outcome {
         Entry::IntegratedDivergence => outflow(lent),
         Entry::ContinuityMetrics => metrics(lent),
         Entry::Step => step(lent),
+        Entry::CorrectFaceFluxInPlace => corrected_in_place(lent),
     };
     match result {
         Ok(outputs) => Outcome::Accepted(Box::new(outputs)),
@@ -186,6 +188,15 @@ fn corrected_flux(lent: &Lent) -> Result<Slices, Refused> {
     );
     Ok(Slices {
         flux: flux.map_err(of_simple)?.values().to_vec(),
+        ..Slices::default()
+    })
+}
+
+/// The same, in the slice that holds the predicted flux.
+fn corrected_in_place(lent: &Lent) -> Result<Slices, Refused> {
+    let corrected = corrected_flux(lent)?;
+    Ok(Slices {
+        predicted: corrected.flux,
         ..Slices::default()
     })
 }

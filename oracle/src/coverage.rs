@@ -4,6 +4,7 @@ use crate::calls::{self, Outcome};
 use crate::cases::{self, Case, Settings, Visit};
 use crate::checks::{self, LIMIT};
 use crate::compare::{damages, patterned};
+use crate::damage;
 use crate::entry::{Entry, Part};
 use crate::lent::Lent;
 use crate::random::Random;
@@ -47,9 +48,7 @@ fn whole_and_damaged(
     for damages in tries {
         let mut lent = good.clone();
         let mut outputs = outputs.clone();
-        for damage in damages {
-            damage.apply(&mut lent, &mut outputs);
-        }
+        damage::apply(entry, &damages, &mut lent, &mut outputs);
         if checks::check(entry, &lent, &outputs).is_none() {
             let number = match calls::run(entry, &lent) {
                 Outcome::Accepted(_) => 0,

@@ -37,7 +37,7 @@ pub enum Damage {
 }
 
 impl Damage {
-    pub fn apply(self, lent: &mut Lent, outputs: &mut Slices) {
+    fn apply(self, lent: &mut Lent, outputs: &mut Slices) {
         match self {
             Damage::Count(count, value) => *count_mut(lent, count) = value,
             Damage::Input(part, length) => lent.slices.slice_mut(part).resize(length, 1, 1.0),
@@ -60,6 +60,16 @@ impl Damage {
             Damage::Shuffled(part, seed) => shuffle(lent, part, seed),
             Damage::Spare(part) => add_record(lent, part),
         }
+    }
+}
+
+/// Makes the changes. A slice that is read and written over is an output as it is then lent.
+pub fn apply(entry: Entry, damages: &[Damage], lent: &mut Lent, outputs: &mut Slices) {
+    for damage in damages {
+        damage.apply(lent, outputs);
+    }
+    for &part in entry.outputs().iter().filter(|&&part| entry.lends(part)) {
+        outputs.take(part, &lent.slices);
     }
 }
 
@@ -155,7 +165,7 @@ pub fn of_shape(entry: Entry, lent: &Lent) -> Vec<Damage> {
             }
         }
     }
-    for &part in entry.outputs() {
+    for &part in entry.outputs().iter().filter(|&&part| !entry.lends(part)) {
         for length in lengths(lent.due(part).unwrap_or(0)) {
             damages.push(Damage::Output(part, length));
         }

@@ -1,10 +1,10 @@
-//! The cases of the program `edges`, with what the checks and the Rust answer: an
+//! The cases of the programs `edges` and `oneslice`, with what the checks and the Rust answer: an
 //! accepted call of each entry and one for each refusal that it can give. The tables here are those of
-//! `crates/edges/src/entries`, in the same order and by the same names.
+//! `crates/edges/src/entries` and `crates/oneslice/src`, in the same order and by the same names.
 
 use crate::calls::{Outcome, Place};
 use crate::compare::{expected, patterned};
-use crate::damage::{Count, Damage};
+use crate::damage::{self, Count, Damage};
 use crate::entry::{Entry, Part, Part::*};
 use crate::lent::{Counts, Lent, SliceMut, Slices};
 use crate::makers;
@@ -269,6 +269,37 @@ const STEP: &[Case] = &[
     ("volume of cell 1 0", Float(Places, 7, 0.0)),
 ];
 
+const IN_PLACE: &[Case] = &[
+    ("as it stands", Nothing),
+    ("code 1 at linked face 1", Whole(Codes, 2, 1)),
+    (
+        "predicted flux of face 4 a NaN",
+        Float(Predicted, 4, f64::NAN),
+    ),
+    ("predicted flux of face 5 -0", Float(Predicted, 5, -0.0)),
+    ("dimension 4", Dimension(4)),
+    ("predicted flux one long", Length(Predicted, 8)),
+    ("predicted flux one short", Length(Predicted, 6)),
+    ("conditions of another mesh", Number(Codes, 8)),
+    ("coefficients of another mesh", Number(Coefficients, 8)),
+    ("correction of another mesh", Number(Correction, 8)),
+    ("predicted flux of another mesh", Number(Predicted, 8)),
+    ("neighbour of face 0 its owner", Whole(Adjacency, 1, 1)),
+    ("code 3 at face 4", Whole(Codes, 8, 3)),
+    ("link of face 4 to face 5", Whole(Codes, 9, 6)),
+    ("coefficient 0 at face 0", Float(Coefficients, 0, 0.0)),
+    ("coefficient 0 at face 6", Float(Coefficients, 6, 0.0)),
+    (
+        "correction of cell 0 -1.7e308",
+        Float(Correction, 0, -1.7e308),
+    ),
+    (
+        "predicted flux of face 2 a NaN",
+        Float(Predicted, 2, f64::NAN),
+    ),
+    ("no condition at face 4", Whole(Codes, 8, 0)),
+];
+
 fn cases(entry: Entry) -> &'static [Case] {
     match entry {
         Entry::MomentumInverseDiagonal => DIAGONAL,
@@ -282,13 +313,24 @@ fn cases(entry: Entry) -> &'static [Case] {
         Entry::IntegratedDivergence => OUTFLOW,
         Entry::ContinuityMetrics => METRICS,
         Entry::Step => STEP,
+        Entry::CorrectFaceFluxInPlace => IN_PLACE,
     }
 }
 
-/// A line for each case: its name, the answer, and the outputs or what a refusal left of them.
+/// The lines of the program `edges`.
 pub fn text() -> String {
+    lines(Entry::of_document_01())
+}
+
+/// The lines of the program `oneslice`.
+pub fn in_place() -> String {
+    lines([Entry::CorrectFaceFluxInPlace].into_iter())
+}
+
+/// A line for each case: its name, the answer, and the outputs or what a refusal left of them.
+fn lines(entries: impl Iterator<Item = Entry>) -> String {
     let mut text = String::new();
-    for entry in Entry::ALL {
+    for entry in entries {
         for (name, change) in cases(entry) {
             let result = result(entry, change);
             let _ = writeln!(text, "{}, {name}: {result}", entry.name());
@@ -300,22 +342,21 @@ pub fn text() -> String {
 fn result(entry: Entry, change: &Change) -> String {
     let mut lent = base();
     let mut outputs = patterned(entry, &lent);
-    for damage in damages(entry, change) {
-        damage.apply(&mut lent, &mut outputs);
-    }
+    damage::apply(entry, &damages(entry, change), &mut lent, &mut outputs);
     let outcome = expected(entry, &lent, &outputs);
+    let mut contents = outcome.contents(entry, &outputs);
+    makers::canonical(&mut contents);
     match &outcome {
-        Outcome::Accepted(_) => {
-            let mut outputs = outcome.contents(entry, &outputs);
-            makers::canonical(&mut outputs);
-            "accepted".to_string() + &words(entry, &outputs)
-        }
+        Outcome::Accepted(_) => "accepted".to_string() + &words(entry, &contents),
         Outcome::Refused(refusal) => {
             let left = match refusal.place {
-                Place::Shape | Place::Mesh => "untouched",
-                Place::Arithmetic => "cleared",
+                _ if entry.outputs().iter().any(|&part| entry.lends(part)) => {
+                    words(entry, &contents)
+                }
+                Place::Shape | Place::Mesh => ", untouched".to_string(),
+                Place::Arithmetic => ", cleared".to_string(),
             };
-            format!("refused {} at {}, {left}", refusal.number, refusal.index)
+            format!("refused {} at {}{left}", refusal.number, refusal.index)
         }
     }
 }

@@ -1,4 +1,4 @@
-//! What each function of document 01 is lent and what it hands out.
+//! What each function is lent and what it hands out.
 
 use Part::*;
 
@@ -142,7 +142,8 @@ impl Part {
     }
 }
 
-/// A function of document 01 that takes lent slices; the root of a number stands apart.
+/// A function that takes lent slices; the root of a number stands apart. Those of document 01 come first, then
+/// those of document 02.
 #[derive(Clone, Copy, Debug, PartialEq, Eq)]
 pub enum Entry {
     MomentumInverseDiagonal,
@@ -156,10 +157,11 @@ pub enum Entry {
     IntegratedDivergence,
     ContinuityMetrics,
     Step,
+    CorrectFaceFluxInPlace,
 }
 
 impl Entry {
-    pub const ALL: [Entry; 11] = [
+    pub const ALL: [Entry; 12] = [
         Entry::MomentumInverseDiagonal,
         Entry::LeastSquaresStencil,
         Entry::LeastSquaresGradient,
@@ -171,7 +173,14 @@ impl Entry {
         Entry::IntegratedDivergence,
         Entry::ContinuityMetrics,
         Entry::Step,
+        Entry::CorrectFaceFluxInPlace,
     ];
+
+    /// Those of document 01, which the fixed list and the program `edges` call.
+    pub fn of_document_01() -> impl Iterator<Item = Entry> {
+        let last = Entry::Step as usize;
+        Entry::ALL.into_iter().take(last + 1)
+    }
 
     pub fn name(self) -> &'static str {
         match self {
@@ -188,6 +197,7 @@ impl Entry {
             Entry::IntegratedDivergence => "integrated_divergence",
             Entry::ContinuityMetrics => "continuity_metrics",
             Entry::Step => "step",
+            Entry::CorrectFaceFluxInPlace => "correct_face_flux_in_place",
         }
     }
 
@@ -222,10 +232,18 @@ impl Entry {
                 Adjacency, Geometry, Heads, Places, Facing, Bordering, Codes, Values, Velocity,
                 Pressure, Responses, Walls, Correction,
             ],
+            Entry::CorrectFaceFluxInPlace => &[
+                Adjacency,
+                Codes,
+                Values,
+                Coefficients,
+                Correction,
+                Predicted,
+            ],
         }
     }
 
-    /// The slices that are lent to be written.
+    /// The slices that are lent to be written. One that is among those to be read too is written over.
     pub fn outputs(self) -> &'static [Part] {
         match self {
             Entry::MomentumInverseDiagonal => &[Responses],
@@ -250,6 +268,7 @@ impl Entry {
                 Outflow,
                 Metrics,
             ],
+            Entry::CorrectFaceFluxInPlace => &[Predicted],
         }
     }
 

@@ -148,8 +148,13 @@ pub struct Claimed {
     pub opposite: u64,
 }
 
-/// The entries of which demand 3 claims something.
-pub const CLAIMED: [Entry; 2] = [Entry::CorrectFaceFluxWithBoundary, Entry::Step];
+/// The functions of the Rust, and their sequence, of which demand 3 claims something.
+pub const CLAIMED_OF_RUST: [Entry; 2] = [Entry::CorrectFaceFluxWithBoundary, Entry::Step];
+
+/// Whether demand 3 claims something of an entry.
+pub fn is_claimed(entry: Entry) -> bool {
+    CLAIMED_OF_RUST.contains(&entry) || entry == Entry::CorrectFaceFluxInPlace
+}
 
 /// Demand 3 for an accepted call of such an entry.
 pub fn claims(entry: Entry, lent: &Lent, outputs: &Slices) -> Option<Result<Claimed, String>> {
@@ -165,6 +170,12 @@ pub fn claims(entry: Entry, lent: &Lent, outputs: &Slices) -> Option<Result<Clai
             &slices.predicted,
             &slices.coefficients,
             &outputs.flux,
+        )),
+        Entry::CorrectFaceFluxInPlace => Some(kept_and_opposite(
+            lent,
+            &slices.predicted,
+            &slices.coefficients,
+            &outputs.predicted,
         )),
         _ => None,
     }

@@ -5,6 +5,7 @@ use crate::calls::{Outcome, Place};
 use crate::cases::{self, Case, Visit};
 use crate::checks;
 use crate::compare::{damages, expected, patterned};
+use crate::damage;
 use crate::entry::{Entry, Part};
 use crate::lent::{Lent, Slices};
 use crate::makers::{self, Made, Walls};
@@ -137,7 +138,7 @@ fn add_edges(list: &mut List) {
 
 fn add_case(random: &mut Random, list: &mut List, made: &Made, walls: Walls, number: u64) {
     let case = numbered(random, made, walls, number);
-    for entry in Entry::ALL {
+    for entry in Entry::of_document_01() {
         let lent = case.lent_to(random, entry);
         list.offer(entry, &lent, &patterned(entry, &lent));
     }
@@ -159,7 +160,7 @@ fn add_damaged(random: &mut Random, list: &mut List) {
     meshes.push(sized(random, 1, 1, true));
     for made in &meshes {
         let number = number(random);
-        for entry in Entry::ALL {
+        for entry in Entry::of_document_01() {
             let case = numbered(random, made, Walls::Mixed, number);
             add_damaged_calls(random, list, entry, &case);
         }
@@ -176,9 +177,7 @@ fn add_damaged_calls(random: &mut Random, list: &mut List, entry: Entry, case: &
     for damages in tries {
         let mut lent = good.clone();
         let mut outputs = outputs.clone();
-        for damage in damages {
-            damage.apply(&mut lent, &mut outputs);
-        }
+        damage::apply(entry, &damages, &mut lent, &mut outputs);
         if matches!(expected(entry, &lent, &outputs), Outcome::Refused(_)) {
             list.offer(entry, &lent, &outputs);
         }
@@ -351,7 +350,7 @@ impl List {
             MESH_PARTS.map(Part::name).join(" "),
             CONDITION_PARTS.map(Part::name).join(" "),
         );
-        for entry in Entry::ALL {
+        for entry in Entry::of_document_01() {
             text.push_str(&self.entry_line(entry));
         }
         let longest: Vec<String> = Part::ALL

@@ -28,6 +28,7 @@ usage: oracle COMMAND
   compare [--seed S] [--cases N]   the port against the Rust, on N meshes made at random and some by hand
   list                             the fixed list, for the repository's own tests
   edges                            the lines of the program `edges`
+  oneslice                         the lines of the program `oneslice`
   sheets FILE...                   the port against the Rust, on sheets of the sheet program
   bench                            times of both sides
   self-test [--seed S] [--cases N] the comparison tried on the Rust itself and on spoiled copies of it
@@ -62,6 +63,7 @@ fn main() -> ExitCode {
         }
         "list" => print!("{}", list::text()),
         "edges" => print!("{}", edges::text()),
+        "oneslice" => print!("{}", edges::in_place()),
         "bench" => bench::run(&port::linked()),
         "coverage-cases" => coverage::run(&settings),
         _ => return refused(),

@@ -114,6 +114,15 @@ const BREACHES: &[Breach] = &[
         },
     },
     Breach {
+        name: "a flux that is not kept in one slice",
+        entry: Entry::CorrectFaceFluxInPlace,
+        breach: |lent, outputs| {
+            let kept = (0..lent.counts.faces).find(|&face| exact::is_kept(lent, face));
+            kept.map(|face| nudge(&mut outputs.predicted[face]))
+                .is_some()
+        },
+    },
+    Breach {
         name: "a linked pair that is not opposite",
         entry: Entry::CorrectFaceFluxWithBoundary,
         breach: |lent, outputs| {
@@ -180,6 +189,7 @@ const SHAMS: &[Sham] = &[
     highest_bad_link(Entry::PressureFaceCoefficientsWithBoundary),
     highest_bad_link(Entry::CorrectFaceFluxWithBoundary),
     highest_bad_link(Entry::Step),
+    highest_bad_link(Entry::CorrectFaceFluxInPlace),
     Sham {
         name: "the predicted field handed on",
         entry: Entry::CorrectFaceFluxWithBoundary,
@@ -205,6 +215,70 @@ const SHAMS: &[Sham] = &[
             if answer == Answer::Accepted && !outputs.flux.is_empty() {
                 let first = outputs.flux[0];
                 outputs.flux.fill(first);
+            }
+            answer
+        },
+    },
+    Sham {
+        name: "the predicted field left as it was",
+        entry: Entry::CorrectFaceFluxInPlace,
+        fault: |_, before, outputs, answer| {
+            if answer == Answer::Accepted {
+                outputs.clone_from(before);
+            }
+            answer
+        },
+    },
+    Sham {
+        name: "the last face not corrected",
+        entry: Entry::CorrectFaceFluxInPlace,
+        fault: |_, before, outputs, answer| {
+            if answer == Answer::Accepted && !outputs.predicted.is_empty() {
+                let last = outputs.predicted.len() - 1;
+                outputs.predicted[last] = before.predicted[last];
+            }
+            answer
+        },
+    },
+    Sham {
+        name: "the predicted field left where arithmetic refuses",
+        entry: Entry::CorrectFaceFluxInPlace,
+        fault: |_, before, outputs, answer| {
+            if let Answer::Refused(9 | 10, _) = answer {
+                outputs.clone_from(before);
+            }
+            answer
+        },
+    },
+    Sham {
+        name: "the faces behind the refused one left as they were",
+        entry: Entry::CorrectFaceFluxInPlace,
+        fault: |_, before, outputs, answer| {
+            if let Answer::Refused(9 | 10, face) = answer {
+                outputs.predicted[face..].copy_from_slice(&before.predicted[face..]);
+            }
+            answer
+        },
+    },
+    Sham {
+        name: "the predicted field cleared by a check",
+        entry: Entry::CorrectFaceFluxInPlace,
+        fault: |_, _, outputs, answer| {
+            if let Answer::Refused(1..=6, _) = answer {
+                outputs.predicted.fill(0.0);
+            }
+            answer
+        },
+    },
+    Sham {
+        name: "corrected twice",
+        entry: Entry::CorrectFaceFluxInPlace,
+        fault: |lent, _, outputs, answer| {
+            let mut again = lent.clone();
+            again.slices.predicted.clone_from(&outputs.predicted);
+            if answer == Answer::Accepted {
+                let twice = calls::run(Entry::CorrectFaceFluxInPlace, &again);
+                *outputs = twice.contents(Entry::CorrectFaceFluxInPlace, outputs);
             }
             answer
         },
@@ -284,6 +358,18 @@ const SHAMS: &[Sham] = &[
         fault: |_, _, outputs, answer| {
             if answer == Answer::Accepted {
                 for flux in outputs.flux.iter_mut().filter(|flux| flux.is_nan()) {
+                    *flux = f64::NAN;
+                }
+            }
+            answer
+        },
+    },
+    Sham {
+        name: "a kept NaN without its payload",
+        entry: Entry::CorrectFaceFluxInPlace,
+        fault: |_, _, outputs, answer| {
+            if answer == Answer::Accepted {
+                for flux in outputs.predicted.iter_mut().filter(|flux| flux.is_nan()) {
                     *flux = f64::NAN;
                 }
             }

@@ -75,7 +75,7 @@ mod library {
     ///
     /// | in the row | parameters |
     /// |---|---|
-    /// | `slice` | its pointer and its length |
+    /// | `slice` | its pointer and its length; one that is read and written stands with what is written |
     /// | `[Part]` before a slice | the mesh number beside that part |
     /// | `(records)` | the number of equation records |
     macro_rules! entries {
@@ -145,6 +145,10 @@ mod library {
             [Velocity] velocity, [Pressure] pressure, [Responses] responses, [Walls] walls,
             [Correction] correction
             => starts, equations, weights, inverses, gradient, predicted, coefficients, flux, outflow, metrics
+        );
+        CorrectFaceFluxInPlace = juvandeer_correct_face_flux_in_place(
+            adjacency, [Codes] codes, values, [Coefficients] coefficients, [Correction] correction,
+            [Predicted] => predicted
         );
     }
 }

@@ -102,7 +102,10 @@ fn of_correction(fields: &CorrectionFields, lent: &mut Lent) -> Vec<Entry> {
     slices.predicted = fields.predicted.values().to_vec();
     slices.coefficients = fields.coefficients.values().to_vec();
     slices.correction = fields.correction.values().to_vec();
-    let mut entries = vec![Entry::CorrectFaceFluxWithBoundary];
+    let mut entries = vec![
+        Entry::CorrectFaceFluxInPlace,
+        Entry::CorrectFaceFluxWithBoundary,
+    ];
     if handed_on(Entry::CorrectFaceFluxWithBoundary, lent) {
         entries.extend([Entry::IntegratedDivergence, Entry::ContinuityMetrics]);
     }

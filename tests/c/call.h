@@ -1,5 +1,5 @@
 /* What is lent to a function and handed out by it, and the changes that cases make to it. The base is
- * that of crates/edges/src/entries: two unit squares side by side. */
+ * that of crates/edges/src/entries and of crates/oneslice: two unit squares side by side. */
 #ifndef CALL_H
 #define CALL_H
 
@@ -25,16 +25,16 @@ struct call {
     size_t index;
 };
 
-/* A function of the library: what makes the call, its outputs up to PARTS, and whether it can refuse
- * by arithmetic. */
+/* A function of the library: what makes the call, its outputs up to PARTS, whether it can refuse by
+ * arithmetic, and whether it reads its output too and writes over it. */
 struct entry {
     const char *name;
     uint64_t (*make)(struct call *call);
     enum part outputs[11];
-    int clears;
+    int clears, over;
 };
 
-#define ENTRIES 11
+#define ENTRIES 12
 extern const struct entry entries[ENTRIES];
 
 int is_whole(enum part part);
@@ -42,10 +42,7 @@ int is_whole(enum part part);
 /* The bits of number i of a slice; of every NaN 7ff8000000000000. */
 uint64_t bits_at(const struct call *call, enum part part, size_t i);
 
-/* Numbers outputs hold before a call. */
-#define FILL UINT64_C(0xa5a5a5a5a5a5a5a5)
-
-/* The base, with the outputs of the entry filled. */
+/* The base, with the outputs of the entry filled, but for one that it reads too. */
 void lend(struct call *call, const struct entry *entry);
 
 /* Makes the change of that name; 0 where there is none. */

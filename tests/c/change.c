@@ -1,6 +1,8 @@
-/* The changes to the base, by the names that they have in crates/edges/src/entries. */
+/* The changes to the base, by the names that they have in crates/edges/src/entries and in
+ * crates/oneslice/src/cases.rt. */
 #include "call.h"
 
+#include <math.h>
 #include <string.h>
 
 enum kind { NOTHING, DIMENSION, RECORDS, LENGTH, NUMBER, WHOLE, REAL };
@@ -32,6 +34,8 @@ static const struct row rows[] = {
     {0, "gradient one short", LENGTH, GRADIENT, 0, 5, 0},
     {0, "metrics one long", LENGTH, METRICS, 0, 3, 0},
     {0, "places one short", LENGTH, PLACES, 0, 7, 0},
+    {0, "predicted flux one long", LENGTH, PREDICTED, 0, 8, 0},
+    {0, "predicted flux one short", LENGTH, PREDICTED, 0, 6, 0},
     {0, "pressure one short", LENGTH, PRESSURE, 0, 1, 0},
     {0, "values one short", LENGTH, VALUES, 0, 27, 0},
     {0, "walls one short", LENGTH, WALLS, 0, 6, 0},
@@ -39,10 +43,12 @@ static const struct row rows[] = {
     {"integrated_divergence", "output one short", LENGTH, OUTFLOW, 0, 1, 0},
     {"momentum_inverse_diagonal", "output one long", LENGTH, RESPONSES, 0, 3, 0},
 
+    {0, "coefficients of another mesh", NUMBER, COEFFICIENTS, 0, 8, 0},
     {0, "conditions of another mesh", NUMBER, CODES, 0, 8, 0},
     {0, "correction of another mesh", NUMBER, CORRECTION, 0, 8, 0},
     {0, "flux of another mesh", NUMBER, FLUX, 0, 8, 0},
     {0, "gradient of another mesh", NUMBER, GRADIENT, 0, 8, 0},
+    {0, "predicted flux of another mesh", NUMBER, PREDICTED, 0, 8, 0},
     {0, "pressure of another mesh", NUMBER, PRESSURE, 0, 8, 0},
     {0, "responses of another mesh", NUMBER, RESPONSES, 0, 8, 0},
     {0, "stencil of another mesh", NUMBER, STARTS, 0, 8, 0},
@@ -74,6 +80,9 @@ static const struct row rows[] = {
     {0, "diagonal 0", REAL, DIAGONAL, 1, 0, 0.0},
     {0, "diagonal 2^-1074", REAL, DIAGONAL, 0, 0, LEAST},
     {0, "flux of face 1 1.7e308", REAL, FLUX, 1, 0, 1.7e308},
+    {0, "predicted flux of face 2 a NaN", REAL, PREDICTED, 2, 0, NAN},
+    {0, "predicted flux of face 4 a NaN", REAL, PREDICTED, 4, 0, NAN},
+    {0, "predicted flux of face 5 -0", REAL, PREDICTED, 5, 0, -0.0},
     {0, "response -1", REAL, RESPONSES, 0, 0, -1.0},
     {0, "response 0", REAL, RESPONSES, 1, 0, 0.0},
     {0, "response 1.7e308", REAL, RESPONSES, 1, 0, 1.7e308},

@@ -55,6 +55,14 @@ static uint64_t correction(struct call *c)
         c->number[CORRECTION], REAL(CORRECTION), REAL(FLUX), &c->index);
 }
 
+static uint64_t in_place(struct call *c)
+{
+    return juvandeer_correct_face_flux_in_place(
+        c->counts, WHOLE(ADJACENCY), c->number[CODES], WHOLE(CODES), REAL(VALUES),
+        c->number[COEFFICIENTS], REAL(COEFFICIENTS), c->number[CORRECTION], REAL(CORRECTION),
+        c->number[PREDICTED], REAL(PREDICTED), &c->index);
+}
+
 static uint64_t velocity(struct call *c)
 {
     return juvandeer_correct_cell_velocity_from_gradient(
@@ -88,16 +96,17 @@ static uint64_t step(struct call *c)
 }
 
 const struct entry entries[ENTRIES] = {
-    {"momentum_inverse_diagonal", diagonal, {RESPONSES, PARTS}, 1},
-    {"least_squares_stencil", stencil, {STARTS, EQUATIONS, WEIGHTS, INVERSES, PARTS}, 1},
-    {"least_squares_gradient", gradient, {GRADIENT, PARTS}, 0},
-    {"pressure_face_coefficients", coefficients, {COEFFICIENTS, PARTS}, 1},
-    {"pressure_face_coefficients_with_boundary", boundary, {COEFFICIENTS, PARTS}, 1},
-    {"rhie_chow_predicted_flux", prediction, {GRADIENT, PREDICTED, PARTS}, 1},
-    {"correct_face_flux_with_boundary", correction, {FLUX, PARTS}, 1},
-    {"correct_cell_velocity_from_gradient", velocity, {CORRECTED, PARTS}, 1},
-    {"integrated_divergence", outflow, {OUTFLOW, PARTS}, 0},
-    {"continuity_metrics", metrics, {OUTFLOW, METRICS, PARTS}, 1},
+    {"momentum_inverse_diagonal", diagonal, {RESPONSES, PARTS}, 1, 0},
+    {"least_squares_stencil", stencil, {STARTS, EQUATIONS, WEIGHTS, INVERSES, PARTS}, 1, 0},
+    {"least_squares_gradient", gradient, {GRADIENT, PARTS}, 0, 0},
+    {"pressure_face_coefficients", coefficients, {COEFFICIENTS, PARTS}, 1, 0},
+    {"pressure_face_coefficients_with_boundary", boundary, {COEFFICIENTS, PARTS}, 1, 0},
+    {"rhie_chow_predicted_flux", prediction, {GRADIENT, PREDICTED, PARTS}, 1, 0},
+    {"correct_face_flux_with_boundary", correction, {FLUX, PARTS}, 1, 0},
+    {"correct_face_flux_in_place", in_place, {PREDICTED, PARTS}, 1, 1},
+    {"correct_cell_velocity_from_gradient", velocity, {CORRECTED, PARTS}, 1, 0},
+    {"integrated_divergence", outflow, {OUTFLOW, PARTS}, 0, 0},
+    {"continuity_metrics", metrics, {OUTFLOW, METRICS, PARTS}, 1, 0},
     {"step", step, {STARTS, EQUATIONS, WEIGHTS, INVERSES, GRADIENT, PREDICTED, COEFFICIENTS, FLUX,
-        OUTFLOW, METRICS, PARTS}, 1}
+        OUTFLOW, METRICS, PARTS}, 1, 0}
 };

@@ -90,9 +90,9 @@ void judge_counts(void)
  * linked with face 2; face 6 is linked with face 0, which has two cells, and faces 5 and 4 to themselves. */
 void judge_links(void)
 {
-    static const char *const names[4] = {
+    static const char *const names[5] = {
         "least_squares_stencil", "pressure_face_coefficients_with_boundary",
-        "correct_face_flux_with_boundary", "step"
+        "correct_face_flux_with_boundary", "correct_face_flux_in_place", "step"
     };
     static const struct {
         const char *name;
@@ -103,7 +103,7 @@ void judge_links(void)
     };
     static struct call call;
     for (size_t i = 0; i < sizeof rows / sizeof *rows; i++)
-        for (size_t k = 0; k < 4; k++) {
+        for (size_t k = 0; k < 5; k++) {
             const struct entry *entry = named(names[k]);
             lend(&call, entry);
             for (size_t f = 0; f < rows[i].faces; f++)
@@ -131,6 +131,43 @@ void judge_room(void)
     }
 }
 
+/* NaNs of both signs, quiet and signalling, with payloads, lent as the predicted flux of faces 4 and 5:
+ * both have one cell, no link and a zero gradient, and keep every bit, whichever call corrects. So do all
+ * where a check refuses the call that writes over them. */
+void judge_payloads(void)
+{
+    static const uint64_t nans[4] = {
+        UINT64_C(0x7ff8000000000abc), UINT64_C(0xfff8dead0000beef), UINT64_C(0x7ff0000000000001),
+        UINT64_C(0xfff4000000000003)
+    };
+    static const struct {
+        const char *name;
+        enum part out;
+    } rows[] = {{"correct_face_flux_with_boundary", FLUX}, {"correct_face_flux_in_place", PREDICTED}};
+    static struct call call;
+    for (size_t i = 0; i < 2; i++)
+        for (size_t k = 0; k < 4; k++) {
+            const struct entry *entry = named(rows[i].name);
+            lend(&call, entry);
+            memcpy(&call.real[PREDICTED][4], &nans[k], sizeof nans[k]);
+            memcpy(&call.real[PREDICTED][5], &nans[3 - k], sizeof nans[k]);
+            hold_answer(entry, &call, 0, "NaNs that are kept");
+            if (memcmp(&call.real[rows[i].out][4], &nans[k], sizeof nans[k])
+                || memcmp(&call.real[rows[i].out][5], &nans[3 - k], sizeof nans[k]))
+                fail("%s: a kept NaN has other bits", rows[i].name);
+        }
+    const struct entry *entry = named("correct_face_flux_in_place");
+    double before[ROOM];
+    lend(&call, entry);
+    for (size_t k = 0; k < ROOM; k++)
+        memcpy(&call.real[PREDICTED][k], &nans[k % 4], sizeof nans[k % 4]);
+    memcpy(before, call.real[PREDICTED], sizeof before);
+    call.number[PREDICTED]++;
+    hold_answer(entry, &call, 3, "NaNs of another mesh");
+    if (memcmp(before, call.real[PREDICTED], sizeof before))
+        fail("correct_face_flux_in_place: a flux that is left has other bits");
+}
+
 /* One cell and no face: slices of length 0 without a pointer, lent and handed out. */
 void judge_null(void)
 {
@@ -148,5 +185,11 @@ void judge_null(void)
             counts, NULL, 0, NULL, 0, places, 4, 7, &response, 1, NULL, 0, &index)
         || index)
         fail("coefficients without a face: refused");
+    passed++;
+    index = SIZE_MAX;
+    if (juvandeer_correct_face_flux_in_place(
+            counts, NULL, 0, 7, NULL, 0, NULL, 0, 7, NULL, 0, 7, &response, 1, 7, NULL, 0, &index)
+        || index)
+        fail("a correction in one slice without a face: refused");
     passed++;
 }

@@ -2,7 +2,8 @@
 #ifndef JUDGE_H
 #define JUDGE_H
 
-/* Makes the call that a line of crates/edges/stdout names, and holds its answer and outputs to it. */
+/* Makes the call that a line of crates/edges/stdout or crates/oneslice/stdout names, and holds its answer
+ * and outputs to it. */
 void judge_line(char *line);
 
 /* Every function of the library was called by a line: accepted, refused by a check, and refused by
@@ -20,6 +21,8 @@ void judge_digits(void);
 void judge_counts(void);
 
 void judge_links(void);
+
+void judge_payloads(void);
 
 void judge_room(void);
 

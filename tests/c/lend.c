@@ -1,4 +1,5 @@
-/* The base: the numbers that every entry accepts, those of crates/edges/src/entries/table.rt. Face 0
+/* The base: the numbers that every entry accepts, those of crates/edges/src/entries/table.rt. A
+ * predicted flux that is one longer ends as that of crates/oneslice/src/case.rt does. Face 0
  * joins cells 0 and 1; faces 1 and 2, to the left and to the right, are linked; faces 3 and 4 are below
  * and above cell 0, faces 5 and 6 below and above cell 1. The mesh's number is no count and no length, so
  * that it cannot be taken for one. */
@@ -57,7 +58,7 @@ static const double real[PARTS][ROOM] = {
     [VELOCITY] = {1.0, 0.5, 0.0,  3.0, 0.3, 0.0},
     [GRADIENT] = {1.0, 0.5, 0.0,  4.0, 0.3, 0.0},
     [WALLS] = {0.0, 2.0, -2.0, 0.5, -0.6, 0.3, 1.0},
-    [PREDICTED] = {2.0, -1.0, 1.0, 0.0, 0.1, 0.2, -0.3},
+    [PREDICTED] = {2.0, -1.0, 1.0, 0.0, 0.1, 0.2, -0.3, 1.0},
     [COEFFICIENTS] = {0.5, 1.0, 1.0, 2.0, 0.0, 0.0, 0.7},
     [CORRECTION] = {1.0, 3.0},
     [FLUX] = {1.0, -1.0, 0.7, 0.1, 0.2, -0.5, 0.3}
@@ -82,7 +83,7 @@ uint64_t bits_at(const struct call *call, enum part part, size_t i)
 
 static void fill(struct call *call, enum part part)
 {
-    const uint64_t bits = FILL;
+    const uint64_t bits = UINT64_C(0xa5a5a5a5a5a5a5a5);
     for (size_t i = 0; i < ROOM; i++) {
         call->whole[part][i] = bits;
         memcpy(&call->real[part][i], &bits, sizeof bits);
@@ -99,6 +100,6 @@ void lend(struct call *call, const struct entry *entry)
     memcpy(call->real, real, sizeof real);
     for (int i = 0; i < PARTS; i++)
         call->number[i] = counts.mesh;
-    for (int i = 0; entry->outputs[i] != PARTS; i++)
+    for (int i = 0; !entry->over && entry->outputs[i] != PARTS; i++)
         fill(call, entry->outputs[i]);
 }

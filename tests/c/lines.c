@@ -1,5 +1,5 @@
 /* The stored lines: `ENTRY, CASE: accepted, NUMBERS, ..` with a group of bit patterns for each output,
- * or `ENTRY, CASE: refused NUMBER at INDEX, untouched` or `.. cleared`. */
+ * or `ENTRY, CASE: refused NUMBER at INDEX, untouched` or `.. cleared`, or the patterns there too. */
 #include "call.h"
 #include "judge.h"
 #include "report.h"
@@ -13,11 +13,12 @@ enum { ACCEPTED, UNTOUCHED, CLEARED, ENDS };
 
 static int seen[ENTRIES][ENDS];
 
-/* One judgement: the line up to the answer, the function, the call after it was made, and its answer. */
+/* One judgement: the line up to the answer, the function, the call before and after it was made, and its
+ * answer. */
 struct made {
     const char *line;
     const struct entry *entry;
-    struct call call;
+    struct call before, call;
     uint64_t answer;
 };
 
@@ -37,19 +38,31 @@ static void hold_number(const struct made *made, int output, size_t i, uint64_t 
             bits, expected);
 }
 
+static void hold_as_before(const struct made *made, int output, size_t i)
+{
+    hold_number(made, output, i, bits_at(&made->before, made->entry->outputs[output], i));
+}
+
 /* Past an output's length nothing was written. */
 static void hold_rest(const struct made *made)
 {
     for (int o = 0; made->entry->outputs[o] != PARTS; o++)
         for (size_t i = made->call.length[made->entry->outputs[o]]; i < ROOM; i++)
-            hold_number(made, o, i, FILL);
+            hold_as_before(made, o, i);
 }
 
-static void hold_all(const struct made *made, uint64_t expected)
+static void hold_untouched(const struct made *made)
+{
+    for (int o = 0; made->entry->outputs[o] != PARTS; o++)
+        for (size_t i = 0; i < ROOM; i++)
+            hold_as_before(made, o, i);
+}
+
+static void hold_cleared(const struct made *made)
 {
     for (int o = 0; made->entry->outputs[o] != PARTS; o++)
         for (size_t i = 0; i < made->call.length[made->entry->outputs[o]]; i++)
-            hold_number(made, o, i, expected);
+            hold_number(made, o, i, 0);
 }
 
 /* A group for each output, a pattern of 16 digits for each of its numbers, and nothing more. */
@@ -74,23 +87,27 @@ static void hold_groups(const struct made *made, const char *text)
 static int hold_result(const struct made *made, const char *text)
 {
     unsigned number, index;
-    char left[16], more;
+    int end = 0;
     hold_rest(made);
     if (!strncmp(text, "accepted", 8)) {
         hold_answer(made, 0, 0);
         hold_groups(made, text + 8);
         return ACCEPTED;
     }
-    if (sscanf(text, "refused %u at %u, %15s%c", &number, &index, left, &more) != 3)
+    if (sscanf(text, "refused %u at %u%n", &number, &index, &end) != 2)
         fail("%s: no answer in the line: %s", made->line, text);
     hold_answer(made, number, index);
-    if (!strcmp(left, "untouched")) {
-        hold_all(made, FILL);
+    text += end;
+    int told = strcmp(text, ", untouched") && strcmp(text, ", cleared");
+    if (told != made->entry->over)
+        fail("%s: the line does not say what is left: %s", made->line, text);
+    if (told)
+        hold_groups(made, text);
+    if (told ? number < 7 : !strcmp(text, ", untouched")) {
+        hold_untouched(made);
         return UNTOUCHED;
     }
-    if (strcmp(left, "cleared"))
-        fail("%s: the outputs are neither untouched nor cleared in the line", made->line);
-    hold_all(made, 0);
+    hold_cleared(made);
     return CLEARED;
 }
 
@@ -117,6 +134,7 @@ void judge_line(char *line)
     lend(&made.call, made.entry);
     if (!change(&made.call, made.entry->name, name + 2))
         fail("%s: no change of this name in tests/c/change.c", line);
+    made.before = made.call;
     made.answer = made.entry->make(&made.call);
     seen[e][hold_result(&made, text + 2)] = 1;
     passed++;

@@ -1,7 +1,7 @@
-/* Calls every function of include/juvandeer.h. Its arguments are the stored lines on calls of entries,
- * of crates/edges/stdout, the stored list of roots, crates/roots/stdin, and the lines on sentences,
- * crates/sentences/stdout: what it expects comes from the original Rust, from MPFR and from document 02,
- * not from the engine. Writes `N passed, 0 failed`, or what is wrong. */
+/* Calls every function of include/juvandeer.h. Its arguments are the stored list of roots,
+ * crates/roots/stdin, the lines on sentences, crates/sentences/stdout, and files with stored lines on calls
+ * of entries, crates/edges/stdout and crates/oneslice/stdout: what it expects comes from the original Rust,
+ * from MPFR and from document 02, not from the engine. Writes `N passed, 0 failed`, or what is wrong. */
 #include "judge.h"
 #include "report.h"
 
@@ -46,16 +46,18 @@ static void judge_file(const char *path, void (*judge)(char *line))
 
 int main(int count, char **arguments)
 {
-    if (count != 4)
-        fail("three arguments are needed, the lines on entries, the list of roots, the lines on sentences");
+    if (count < 4)
+        fail("three arguments are needed, the list of roots, the lines on sentences, lines on entries");
     judge_environment();
-    judge_file(arguments[1], judge_line);
+    judge_file(arguments[1], judge_root);
+    judge_file(arguments[2], judge_sentence);
+    for (int i = 3; i < count; i++)
+        judge_file(arguments[i], judge_line);
     judge_coverage();
-    judge_file(arguments[2], judge_root);
-    judge_file(arguments[3], judge_sentence);
     judge_digits();
     judge_counts();
     judge_links();
+    judge_payloads();
     judge_room();
     judge_null();
     printf("%zu passed, 0 failed\n", passed);

@@ -46,7 +46,8 @@ fn answer(call: impl FnOnce(*mut usize) -> u64) -> Result<(), Refusal> {
 }
 
 /// Declares functions of the library and defines a safe one for each. A row has the parameters between the
-/// counts and the place of the index, in the library's order, first what is read, then what is written:
+/// counts and the place of the index, in the library's order, first what is read, then what is written, or read
+/// and written:
 ///
 /// | in the row | parameters in C |
 /// |---|---|
@@ -114,6 +115,10 @@ functions! {
     correct_face_flux_with_boundary = juvandeer_correct_face_flux_with_boundary(
         adjacency: usize, [number], codes: usize, values: f64, [prediction], predicted: f64,
         [coefficient], coefficients: f64, [correction], corrections: f64 => out: f64
+    );
+    correct_face_flux_in_place = juvandeer_correct_face_flux_in_place(
+        adjacency: usize, [number], codes: usize, values: f64, [coefficient], coefficients: f64,
+        [correction], corrections: f64, [prediction] => flux: f64
     );
     correct_cell_velocity_from_gradient = juvandeer_correct_cell_velocity_from_gradient(
         [velocity], velocities: f64, [response], responses: f64, [gradient], gradients: f64

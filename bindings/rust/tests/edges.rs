@@ -1,6 +1,6 @@
-//! Calls of every entry, with the answers of the original Rust as they stand in `crates/edges/stdout`. All the
-//! values of a call differ, so that two parameters of one type, taken for each other, change a bit or are
-//! refused.
+//! Calls of every entry, with the answers of the original Rust as they stand in `crates/edges/stdout` and
+//! `crates/oneslice/stdout`. All the values of a call differ, so that two parameters of one type, taken for each
+//! other, change a bit or are refused.
 
 mod common;
 
@@ -15,24 +15,31 @@ type Answer = Result<Vec<Vec<u64>>, Refusal>;
 /// Makes a call and gives its outputs in the library's order.
 type Call = fn(&Made) -> Answer;
 
-fn stored() -> String {
-    let path = Path::new(env!("CARGO_MANIFEST_DIR")).join("../../crates/edges/stdout");
-    fs::read_to_string(path).expect("the stored lines are at hand")
+fn stored(program: &str) -> String {
+    let crates = Path::new(env!("CARGO_MANIFEST_DIR")).join("../../crates");
+    fs::read_to_string(crates.join(program).join("stdout")).expect("the stored lines are at hand")
+}
+
+/// What stands behind the name of a case in its stored line.
+fn line(entry: &str, case: &str) -> String {
+    let text = stored("edges") + &stored("oneslice");
+    let start = format!("{entry}, {case}: ");
+    let mut lines = text.lines().filter_map(|line| line.strip_prefix(&start));
+    let line = lines.next().unwrap_or_else(|| panic!("no line {start}"));
+    line.to_owned()
+}
+
+fn words(output: &str) -> Vec<u64> {
+    let words = output.split_whitespace();
+    words
+        .map(|word| u64::from_str_radix(word, 16).unwrap())
+        .collect()
 }
 
 /// The answer that is stored for a case.
 fn expected(entry: &str, case: &str) -> Answer {
-    let text = stored();
-    let start = format!("{entry}, {case}: ");
-    let mut lines = text.lines().filter_map(|line| line.strip_prefix(&start));
-    let answer = lines.next().unwrap_or_else(|| panic!("no line {start}"));
+    let answer = line(entry, case);
     if let Some(outputs) = answer.strip_prefix("accepted, ") {
-        let words = |output: &str| {
-            let words = output.split_whitespace();
-            words
-                .map(|word| u64::from_str_radix(word, 16).unwrap())
-                .collect()
-        };
         return Ok(outputs.split(", ").map(words).collect());
     }
     let refusal = answer.strip_prefix("refused ").expect("an answer");
@@ -111,6 +118,13 @@ fn correction(m: &Made) -> Answer {
     Ok(vec![floats(out.values())])
 }
 
+fn in_place(m: &Made) -> Answer {
+    let mut flux = m.predicted.clone();
+    let mesh = &m.mesh;
+    mesh.correct_face_flux_in_place(&m.conditions, &m.coefficients, &m.correction, &mut flux)?;
+    Ok(vec![floats(flux.values())])
+}
+
 fn velocity(m: &Made) -> Answer {
     let mesh = &m.mesh;
     let out = mesh.correct_cell_velocity_from_gradient(&m.velocity, &m.responses, &m.gradient)?;
@@ -141,7 +155,7 @@ fn step(m: &Made) -> Answer {
     Ok(words)
 }
 
-const ENTRIES: [(&str, Call); 11] = [
+const ENTRIES: [(&str, Call); 12] = [
     ("momentum_inverse_diagonal", diagonal),
     ("least_squares_stencil", stencil),
     ("least_squares_gradient", gradient),
@@ -149,6 +163,7 @@ const ENTRIES: [(&str, Call); 11] = [
     ("pressure_face_coefficients_with_boundary", boundary),
     ("rhie_chow_predicted_flux", prediction),
     ("correct_face_flux_with_boundary", correction),
+    ("correct_face_flux_in_place", in_place),
     ("correct_cell_velocity_from_gradient", velocity),
     ("integrated_divergence", outflow),
     ("continuity_metrics", metrics),
@@ -208,7 +223,11 @@ fn other_accepted_cases_give_the_stored_bits() {
     check(entry, "centre of face 3 2^-27 from its cell's", |b| {
         b.faces[3].center[1] = 0.5 - 2f64.powi(-27);
     });
-    for entry in [entry, "correct_face_flux_with_boundary"] {
+    for entry in [
+        entry,
+        "correct_face_flux_with_boundary",
+        "correct_face_flux_in_place",
+    ] {
         check(entry, "code 1 at linked face 1", |b| {
             b.conditions[1] = Condition::FixedValue(0.0);
         });
@@ -254,19 +273,23 @@ fn near(base: &mut Base) {
 
 #[test]
 fn refusals_of_correction_velocity_and_metrics_are_the_stored_ones() {
-    let entry = "correct_face_flux_with_boundary";
-    check(entry, "coefficient 0 at face 0", |b| {
-        b.coefficients[0] = 0.0
-    });
-    check(entry, "coefficient 0 at face 6", |b| {
-        b.coefficients[6] = 0.0
-    });
-    check(entry, "correction of cell 0 -1.7e308", |b| {
-        b.correction[0] = -1.7e308;
-    });
-    check(entry, "no condition at face 4", |b| {
-        b.conditions[4] = Condition::Absent;
-    });
+    for entry in [
+        "correct_face_flux_with_boundary",
+        "correct_face_flux_in_place",
+    ] {
+        check(entry, "coefficient 0 at face 0", |b| {
+            b.coefficients[0] = 0.0
+        });
+        check(entry, "coefficient 0 at face 6", |b| {
+            b.coefficients[6] = 0.0
+        });
+        check(entry, "correction of cell 0 -1.7e308", |b| {
+            b.correction[0] = -1.7e308;
+        });
+        check(entry, "no condition at face 4", |b| {
+            b.conditions[4] = Condition::Absent;
+        });
+    }
     let entry = "correct_cell_velocity_from_gradient";
     check(entry, "response 0", |b| b.responses[1] = 0.0);
     check(entry, "response 1.7e308", |b| b.responses[1] = 1.7e308);
@@ -299,4 +322,46 @@ fn refusals_of_the_checks_are_the_stored_ones() {
             b.starts[1] = 8
         });
     }
+}
+
+/// The field that is corrected in place, after a call by which it is refused, against the stored line.
+fn check_left(case: &str, change: impl FnOnce(&mut Base)) {
+    let mut base = base();
+    change(&mut base);
+    let mut m = base.made();
+    let entry = "correct_face_flux_in_place";
+    let answer = m.mesh.correct_face_flux_in_place(
+        &m.conditions,
+        &m.coefficients,
+        &m.correction,
+        &mut m.predicted,
+    );
+    assert_eq!(answer.unwrap_err(), expected(entry, case).unwrap_err());
+    let line = line(entry, case);
+    let (_, left) = line.split_once(", ").unwrap();
+    assert_eq!(floats(m.predicted.values()), words(left), "{case}");
+}
+
+#[test]
+fn a_refused_field_in_place_is_left_as_stored() {
+    check_left("predicted flux one short", |b| b.predicted.truncate(6));
+    check_left("predicted flux one long", |b| b.predicted.push(1.0));
+    check_left("coefficient 0 at face 0", |b| b.coefficients[0] = 0.0);
+    check_left("coefficient 0 at face 6", |b| b.coefficients[6] = 0.0);
+    check_left("no condition at face 4", |b| {
+        b.conditions[4] = Condition::Absent;
+    });
+}
+
+/// A face with one cell, no link and a zero gradient keeps its flux with a NaN's every bit.
+#[test]
+fn a_kept_nan_keeps_its_payload() {
+    let bits = [0x7ff8_0000_0000_0abc, 0xfff8_dead_0000_beef];
+    let mut m = base().made();
+    m.predicted.values_mut()[4] = f64::from_bits(bits[0]);
+    m.predicted.values_mut()[5] = f64::from_bits(bits[1]);
+    let into = correction(&m).unwrap();
+    let over = in_place(&m).unwrap();
+    assert_eq!(into[0][4..6], bits);
+    assert_eq!(into, over);
 }

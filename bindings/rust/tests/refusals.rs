@@ -114,6 +114,19 @@ fn mesh_mismatch_3_of_correction_and_step() {
         refused(correct(c, p, k, &b.correction)),
     ];
     assert_eq!(answers, [(3, 0); 4]);
+    let correct_over = |c, k, x, flux: &FaceField| {
+        let mut flux = flux.clone();
+        let answer = a.mesh.correct_face_flux_in_place(c, k, x, &mut flux);
+        assert_eq!(flux.values(), p.values(), "the predicted flux is left");
+        refused(answer)
+    };
+    let answers = [
+        correct_over(&b.conditions, k, x, p),
+        correct_over(c, &b.coefficients, x, p),
+        correct_over(c, k, &b.correction, p),
+        correct_over(c, k, x, &b.predicted),
+    ];
+    assert_eq!(answers, [(3, 0); 4]);
 }
 
 #[test]
@@ -181,9 +194,10 @@ fn lowest_bad_link_6() {
             refused(mesh.least_squares_stencil(c)),
             refused(mesh.pressure_face_coefficients_with_boundary(c, &made.responses)),
             refused(mesh.correct_face_flux_with_boundary(c, p, k, x)),
+            refused(mesh.correct_face_flux_in_place(c, k, x, &mut p.clone())),
             refused(mesh.step(made.step_input())),
         ];
-        assert_eq!(answers, [answers[0]; 4]);
+        assert_eq!(answers, [answers[0]; 5]);
         answers[0]
     };
     // 1 and 2 stay linked well

@@ -319,6 +319,47 @@ pub extern "C" fn juvandeer_correct_face_flux_with_boundary(
     number_of(a)
 }
 
+// `simple::correct_face_flux_in_place`.
+#[no_mangle]
+pub extern "C" fn juvandeer_correct_face_flux_in_place(
+    counts: Counts,
+    adjacency: &[usize],
+    number: u64,
+    codes: &[usize],
+    values: &[f64],
+    coefficient: u64,
+    coefficients: &[f64],
+    correction: u64,
+    corrections: &[f64],
+    prediction: u64,
+    flux: &mut [f64],
+    index: &mut usize,
+) -> u64
+    ensures told { λ r.
+        let k = conditions number (now (codes .entry)) (now (values .entry)) in
+        let predicted = field prediction (now (flux .entry)) in
+        let l = fields predicted (field coefficient (now (coefficients .entry))) (field correction (now (corrections .entry))) in
+        let call : Answer → Type 0 = λ a. CorrectionCall counts (now (adjacency .entry)) k l (now (flux .entry)) a (now (flux .exit)) in
+        let promise : Answer → Type 0 = λ a. Promised a (now (adjacency .entry)) k l (now (flux .exit)) in
+        ⌜ Told (λ (a : Answer). call a × promise a) r (now (index .exit)) ⌝ }
+{
+    let a = simple::correct_face_flux_in_place(
+        counts,
+        adjacency,
+        number,
+        codes,
+        values,
+        coefficient,
+        coefficients,
+        correction,
+        corrections,
+        prediction,
+        flux,
+    );
+    *index = index_of(a);
+    number_of(a)
+}
+
 // `simple::correct_cell_velocity_from_gradient`.
 #[no_mangle]
 pub extern "C" fn juvandeer_correct_cell_velocity_from_gradient(

@@ -432,6 +432,56 @@ pub fn correct_face_flux_with_boundary(
     }
 }
 
+// The same in one slice, which holds the predicted flux before the call and the corrected flux after it.
+// Refused by a check it keeps the predicted flux; refused by arithmetic it is +0.0 throughout.
+pub fn correct_face_flux_in_place(
+    counts: Counts,
+    adjacency: &[usize],
+    number: u64,
+    codes: &[usize],
+    values: &[f64],
+    coefficient: u64,
+    coefficients: &[f64],
+    correction: u64,
+    corrections: &[f64],
+    prediction: u64,
+    flux: &mut [f64],
+) -> Answer
+    ensures corrects { λ r.
+        let k = conditions number (now (codes .entry)) (now (values .entry)) in
+        let predicted = field prediction (now (flux .entry)) in
+        let l = fields predicted (field coefficient (now (coefficients .entry))) (field correction (now (corrections .entry))) in
+        let call = CorrectionCall counts (now (adjacency .entry)) k l (now (flux .entry)) r (now (flux .exit)) in
+        let promise = Promised r (now (adjacency .entry)) k l (now (flux .exit)) in
+        ⌜ call × promise ⌝ }
+{
+    let a = check_correction(
+        counts,
+        adjacency,
+        number,
+        codes,
+        values,
+        prediction,
+        flux,
+        coefficient,
+        coefficients,
+        correction,
+        corrections,
+        flux.len(),
+    );
+    match a {
+        Answer::Accepted => inplace::inner::correct_face_flux_in_place(
+            adjacency,
+            codes,
+            values,
+            coefficients,
+            corrections,
+            flux,
+        ),
+        Answer::Refused(k, i) => Answer::Refused(k, i),
+    }
+}
+
 fn check_velocity(
     counts: Counts,
     velocity: u64,

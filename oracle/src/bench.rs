@@ -28,14 +28,7 @@ pub fn run(port: &Port) {
          last call left, nothing clears them before. The correction in one slice is repeated on what it left,\n\
          and beside it stands the Rust's only correction."
     );
-    for (name, made) in [
-        ("127x129 quads", makers::quads(127, 129)),
-        ("20x21x26 hexes", makers::hexes(20, 21, 26)),
-        (
-            "127x129 quads, distorted",
-            makers::distorted_quads(127, 129),
-        ),
-    ] {
+    for (name, made) in meshes() {
         let lent = ordinary(&made);
         println!(
             "\n{name}: {} cells, {} faces",
@@ -47,7 +40,49 @@ pub fn run(port: &Port) {
             println!("{:42} {}", entry.name(), row(times));
         }
     }
+    corrections(port);
     growth(port);
+}
+
+/// Both forms of the correction, measured in turn.
+fn corrections(port: &Port) {
+    let (into, over) = (
+        Entry::CorrectFaceFluxWithBoundary,
+        Entry::CorrectFaceFluxInPlace,
+    );
+    let (Some(second), Some(one)) = (port.call(into), port.call(over)) else {
+        return;
+    };
+    println!(
+        "\nthe correction, ns per face: {:>22} {:>10}",
+        "into a second slice", "in one"
+    );
+    for (name, made) in meshes() {
+        let lent = ordinary(&made);
+        let (mut handed_out, mut written_over) = (patterned(into, &lent), patterned(over, &lent));
+        let mut into_second = || accepted(into, second(black_box(&lent), &mut handed_out));
+        let mut in_one = || accepted(over, one(black_box(&lent), &mut written_over));
+        let times = least([&mut into_second, &mut in_one]);
+        let [second, one] = times.map(|time| time / lent.counts.faces as f64);
+        println!("{name:28} {second:22.2} {one:10.2}");
+    }
+}
+
+/// The largest meshes of squares and of cubes within the limits, and the first with its corners moved.
+fn meshes() -> [(&'static str, makers::Made); 3] {
+    [
+        ("127x129 quads", makers::quads(127, 129)),
+        ("20x21x26 hexes", makers::hexes(20, 21, 26)),
+        (
+            "127x129 quads, distorted",
+            makers::distorted_quads(127, 129),
+        ),
+    ]
+}
+
+/// What is timed is an accepted call.
+fn accepted(entry: Entry, answer: Answer) {
+    assert_eq!(answer, Answer::Accepted, "{}", entry.name());
 }
 
 /// The step on meshes of growing size, and what is lent for it.
@@ -138,10 +173,7 @@ fn entry_times(port: &Port, entry: Entry, lent: &Lent) -> [Option<f64>; 2] {
     match port.call(entry) {
         Some(call) => {
             let mut outputs = patterned(entry, lent);
-            let mut repeated = || {
-                let answer = call(black_box(lent), &mut outputs);
-                assert_eq!(answer, Answer::Accepted, "{}", entry.name());
-            };
+            let mut repeated = || accepted(entry, call(black_box(lent), &mut outputs));
             least([&mut rust, &mut repeated]).map(|time| Some(time / faces))
         }
         None => [Some(least([&mut rust])[0] / faces), None],

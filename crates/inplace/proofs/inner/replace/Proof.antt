@@ -32,7 +32,7 @@ flux-at-requires : tie.Need-flux-at-requires Inv-loop μ-loop
 flux-at-requires c κs =
     let s : tie.Start Inv-loop μ-loop = search in
     let l : tie.In-loop Inv-loop μ-loop = search in
-    (still-correctable _ _ _ _ _ (now (s .args .flux)) _ (l .before .loop .inv .0 .size) (s .pre), l .loop-test .taken)
+    (still-correctable _ _ _ _ _ (now (s .args .flux)) _ (l .before .loop .inv .0 .size) (s .pre), omega (arith, l .loop-test .taken))
 
 enum-known-v : tie.Need-enum-known-v Inv-loop μ-loop
 enum-known-v c = search needs

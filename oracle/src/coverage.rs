@@ -18,7 +18,7 @@ pub fn run(settings: &Settings) {
     let mut answers = Answers::new();
     let mut random = Random::new(settings.seed);
     cases::each(&mut random, settings, &mut |random, case, visit| {
-        for entry in Entry::ALL {
+        for entry in Entry::of_document_01() {
             let mut good = case.lent_to(random, entry);
             if settings.built && entry.outputs().contains(&Part::Starts) {
                 // records for every equation, so that no other mesh is built to count them

@@ -86,6 +86,19 @@ fn nudge(x: &mut f64) {
     *x = f64::from_bits(x.to_bits() ^ 1);
 }
 
+/// The flux of a face that should have kept it, one bit off.
+const fn not_kept(name: &'static str, entry: Entry) -> Breach {
+    Breach {
+        name,
+        entry,
+        breach: |lent, outputs| {
+            let kept = (0..lent.counts.faces).find(|&face| exact::is_kept(lent, face));
+            kept.map(|face| nudge(&mut corrected(outputs)[face]))
+                .is_some()
+        },
+    }
+}
+
 const BREACHES: &[Breach] = &[
     Breach {
         name: "an outflow that is not finite",
@@ -105,23 +118,14 @@ const BREACHES: &[Breach] = &[
             true
         },
     },
-    Breach {
-        name: "a flux that is not kept",
-        entry: Entry::CorrectFaceFluxWithBoundary,
-        breach: |lent, outputs| {
-            let kept = (0..lent.counts.faces).find(|&face| exact::is_kept(lent, face));
-            kept.map(|face| nudge(&mut outputs.flux[face])).is_some()
-        },
-    },
-    Breach {
-        name: "a flux that is not kept in one slice",
-        entry: Entry::CorrectFaceFluxInPlace,
-        breach: |lent, outputs| {
-            let kept = (0..lent.counts.faces).find(|&face| exact::is_kept(lent, face));
-            kept.map(|face| nudge(&mut outputs.predicted[face]))
-                .is_some()
-        },
-    },
+    not_kept(
+        "a flux that is not kept",
+        Entry::CorrectFaceFluxWithBoundary,
+    ),
+    not_kept(
+        "a flux that is not kept in one slice",
+        Entry::CorrectFaceFluxInPlace,
+    ),
     Breach {
         name: "a linked pair that is not opposite",
         entry: Entry::CorrectFaceFluxWithBoundary,
@@ -180,6 +184,31 @@ const fn highest_bad_link(entry: Entry) -> Sham {
                 Answer::Refused(6, highest.unwrap_or(lowest))
             }
             answer => answer,
+        },
+    }
+}
+
+/// The corrected fluxes, in one slice or in a second.
+fn corrected(outputs: &mut Slices) -> &mut Vec<f64> {
+    match outputs.flux.is_empty() {
+        true => &mut outputs.predicted,
+        false => &mut outputs.flux,
+    }
+}
+
+/// A kept NaN without its payload.
+const fn without_payload(entry: Entry) -> Sham {
+    Sham {
+        name: "a kept NaN without its payload",
+        entry,
+        fault: |_, _, outputs, answer| {
+            if answer == Answer::Accepted {
+                let fluxes = corrected(outputs).iter_mut();
+                fluxes
+                    .filter(|flux| flux.is_nan())
+                    .for_each(|flux| *flux = f64::NAN);
+            }
+            answer
         },
     }
 }
@@ -352,30 +381,8 @@ const SHAMS: &[Sham] = &[
             answer => answer,
         },
     },
-    Sham {
-        name: "a kept NaN without its payload",
-        entry: Entry::CorrectFaceFluxWithBoundary,
-        fault: |_, _, outputs, answer| {
-            if answer == Answer::Accepted {
-                for flux in outputs.flux.iter_mut().filter(|flux| flux.is_nan()) {
-                    *flux = f64::NAN;
-                }
-            }
-            answer
-        },
-    },
-    Sham {
-        name: "a kept NaN without its payload",
-        entry: Entry::CorrectFaceFluxInPlace,
-        fault: |_, _, outputs, answer| {
-            if answer == Answer::Accepted {
-                for flux in outputs.predicted.iter_mut().filter(|flux| flux.is_nan()) {
-                    *flux = f64::NAN;
-                }
-            }
-            answer
-        },
-    },
+    without_payload(Entry::CorrectFaceFluxWithBoundary),
+    without_payload(Entry::CorrectFaceFluxInPlace),
     Sham {
         name: "a zero without its sign",
         entry: Entry::IntegratedDivergence,

@@ -63,16 +63,3 @@ pub record CorrectionCall (n : Counts) (adjacency : List ℕ) (k : Conditions) (
 -- kept and opposite fluxes, of an accepted call
 abbrev pub Promised : Answer → List ℕ → Conditions → Fields → List Float → Type 0
 Promised r adjacency k l new = r ≡ Accepted → Promise (boundaryOf (correctingBy adjacency k l)) new
-
--- ---- the correction into a second slice and the correction in one, lent the same: the same answer and the same fluxes, save that where a check refuses each slice is as it was
-pub record SameEitherWay (checks : Answer) (old predicted : List Float) (r s : Answer) (out flux : List Float) : Type 0 where
-  pub answer : s ≡ r
-  pub contents : checks ≡ Accepted → flux ≡ out
-  pub untouched : (checks ≡ Accepted → ⊥) → (out ≡ old) × (flux ≡ predicted)
-
--- the second slice is as long as the predicted flux
-abbrev pub EitherWay : Type 0
-EitherWay =
-    (n : Counts) (adjacency : List ℕ) (k : Conditions) (l : Fields) (old out flux : List Float) (r s : Answer) → length old ≡ length (l .predicted .values)
-    → CorrectionCall n adjacency k l old r out → CorrectionCall n adjacency k l (l .predicted .values) s flux
-    → SameEitherWay (correctionChecks n adjacency k l (length old)) old (l .predicted .values) r s out flux

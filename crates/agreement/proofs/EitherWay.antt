@@ -12,10 +12,11 @@ use Rattle.mesh.specs.declared.Answer.the-variants.{Accepted, Refused}
 use Rattle.mesh.specs.declared.Counts.{Counts}
 use Rattle.passes.proofs.Stages.{never-accepted}
 use Rattle.corrector.specs.Correction.{correctionAnswer, correctedFluxes}
-use Rattle.simple.specs.Corrected.{Fields, correctingBy, correctionChecks, CorrectionCall, SameEitherWay, EitherWay}
+use Rattle.simple.specs.Corrected.{Fields, correctingBy, correctionChecks, CorrectionCall}
+use Rattle.agreement.specs.EitherWay.{Same, EitherWay}
 
 -- two outputs that hold the same unless the checks refuse
-both : (checks : Answer) (old predicted result out flux : List Float) (r s : Answer) → s ≡ r → out ≡ unless checks old result → flux ≡ unless checks predicted result → SameEitherWay checks old predicted r s out flux
+both : (checks : Answer) (old predicted result out flux : List Float) (r s : Answer) → s ≡ r → out ≡ unless checks old result → flux ≡ unless checks predicted result → Same checks old predicted r s out flux
 unfolding unless
 both Accepted old predicted result out flux r s e o f = record { answer = e; contents = λ _. f ∙ sym o; untouched = λ no. absurd (no refl) }
 both (Refused k i) old predicted result out flux r s e o f = record { answer = e; contents = λ ok. absurd (never-accepted k i ok); untouched = λ _. (o, f) }

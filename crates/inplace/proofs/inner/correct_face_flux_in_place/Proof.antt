@@ -2,7 +2,6 @@
 use Rattle.passes.proofs.Stages.{settled}
 use denote.Ref.{now}
 use lib.ListN.{length}
-use mathlib.Core.Path.{_≡_, sym, _∙_, ap}
 use borrow.Author.Needs.{needs}
 use Rattle.inplace.proofs.inner.correct_face_flux_in_place.Statement.{statement}
 use Rattle.inplace.proofs.inner.correct_face_flux_in_place.Tie as tie

@@ -5,7 +5,7 @@ ghost use lib.ListN.{length};
 ghost use Rattle.binary64.specs.Root.{root};
 ghost use Rattle.mesh.specs.Answers.{orElse};
 ghost use Rattle.mesh.specs.Mesh.{mesh, conditions};
-ghost use Rattle.mesh.specs.Pass.{handedOut, unless};
+ghost use Rattle.mesh.specs.Pass.{handedOut, ifRefused};
 ghost use Rattle.mesh.specs.declared.Answer.{Answer};
 ghost use Rattle.numerics.specs.Slices.{slices};
 ghost use Rattle.stencil.specs.Checks.{StencilCall};
@@ -119,7 +119,7 @@ pub extern "C" fn juvandeer_least_squares_gradient(
     out: &mut [f64],
     index: &mut usize,
 ) -> u64
-    ensures { λ r. ⌜ Told (λ (a : Answer). (a ≡ gradientChecks counts stencil records (slices (now (starts .entry)) (now (equations .entry)) (now (weights .entry)) (now (inverses .entry))) number (now (field .entry)) (length (now (out .entry)))) × (now (out .exit) ≡ unless a (now (out .entry)) (gradients (slices (now (starts .entry)) (now (equations .entry)) (now (weights .entry)) (now (inverses .entry))) records (now (field .entry)) (counts .cells)))) r (now (index .exit)) ⌝ }
+    ensures { λ r. ⌜ Told (λ (a : Answer). (a ≡ gradientChecks counts stencil records (slices (now (starts .entry)) (now (equations .entry)) (now (weights .entry)) (now (inverses .entry))) number (now (field .entry)) (length (now (out .entry)))) × (now (out .exit) ≡ ifRefused a (now (out .entry)) (gradients (slices (now (starts .entry)) (now (equations .entry)) (now (weights .entry)) (now (inverses .entry))) records (now (field .entry)) (counts .cells)))) r (now (index .exit)) ⌝ }
 {
     let a = numerics::least_squares_gradient(
         counts,
@@ -147,7 +147,7 @@ pub extern "C" fn juvandeer_integrated_divergence(
     out: &mut [f64],
     index: &mut usize,
 ) -> u64
-    ensures { λ r. ⌜ Told (λ (a : Answer). (a ≡ outflowChecks counts (now (adjacency .entry)) number (now (flux .entry)) (length (now (out .entry)))) × (now (out .exit) ≡ unless a (now (out .entry)) (outflows (counts .cells) (now (adjacency .entry)) (now (flux .entry))))) r (now (index .exit)) ⌝ }
+    ensures { λ r. ⌜ Told (λ (a : Answer). (a ≡ outflowChecks counts (now (adjacency .entry)) number (now (flux .entry)) (length (now (out .entry)))) × (now (out .exit) ≡ ifRefused a (now (out .entry)) (outflows (counts .cells) (now (adjacency .entry)) (now (flux .entry))))) r (now (index .exit)) ⌝ }
 {
     let a = numerics::integrated_divergence(counts, adjacency, number, flux, out);
     *index = index_of(a);
@@ -162,7 +162,7 @@ pub extern "C" fn juvandeer_momentum_inverse_diagonal(
     out: &mut [f64],
     index: &mut usize,
 ) -> u64
-    ensures { λ r. ⌜ Told (λ (a : Answer). (a ≡ orElse (diagonalChecks counts (now (diagonal .entry)) (length (now (out .entry)))) (inverseAnswer (now (diagonal .entry)))) × (now (out .exit) ≡ unless (diagonalChecks counts (now (diagonal .entry)) (length (now (out .entry)))) (now (out .entry)) (handedOut a (counts .cells) (inverses (now (diagonal .entry)))))) r (now (index .exit)) ⌝ }
+    ensures { λ r. ⌜ Told (λ (a : Answer). (a ≡ orElse (diagonalChecks counts (now (diagonal .entry)) (length (now (out .entry)))) (inverseAnswer (now (diagonal .entry)))) × (now (out .exit) ≡ ifRefused (diagonalChecks counts (now (diagonal .entry)) (length (now (out .entry)))) (now (out .entry)) (handedOut a (counts .cells) (inverses (now (diagonal .entry)))))) r (now (index .exit)) ⌝ }
 {
     let a = simple::momentum_inverse_diagonal(counts, diagonal, out);
     *index = index_of(a);
@@ -181,7 +181,7 @@ pub extern "C" fn juvandeer_pressure_face_coefficients(
     out: &mut [f64],
     index: &mut usize,
 ) -> u64
-    ensures { λ r. ⌜ Told (λ (a : Answer). (a ≡ orElse (coefficientChecks counts (grid (now (adjacency .entry)) (now (geometry .entry)) (now (places .entry))) (field response (now (responses .entry))) (length (now (out .entry)))) (coefficientAnswer (grid (now (adjacency .entry)) (now (geometry .entry)) (now (places .entry))) (now (responses .entry)) (counts .faces))) × (now (out .exit) ≡ unless (coefficientChecks counts (grid (now (adjacency .entry)) (now (geometry .entry)) (now (places .entry))) (field response (now (responses .entry))) (length (now (out .entry)))) (now (out .entry)) (handedOut a (counts .faces) (coefficients (grid (now (adjacency .entry)) (now (geometry .entry)) (now (places .entry))) (now (responses .entry)) (counts .faces))))) r (now (index .exit)) ⌝ }
+    ensures { λ r. ⌜ Told (λ (a : Answer). (a ≡ orElse (coefficientChecks counts (grid (now (adjacency .entry)) (now (geometry .entry)) (now (places .entry))) (field response (now (responses .entry))) (length (now (out .entry)))) (coefficientAnswer (grid (now (adjacency .entry)) (now (geometry .entry)) (now (places .entry))) (now (responses .entry)) (counts .faces))) × (now (out .exit) ≡ ifRefused (coefficientChecks counts (grid (now (adjacency .entry)) (now (geometry .entry)) (now (places .entry))) (field response (now (responses .entry))) (length (now (out .entry)))) (now (out .entry)) (handedOut a (counts .faces) (coefficients (grid (now (adjacency .entry)) (now (geometry .entry)) (now (places .entry))) (now (responses .entry)) (counts .faces))))) r (now (index .exit)) ⌝ }
 {
     let a = simple::pressure_face_coefficients(
         counts,
@@ -373,7 +373,7 @@ pub extern "C" fn juvandeer_correct_cell_velocity_from_gradient(
     out: &mut [f64],
     index: &mut usize,
 ) -> u64
-    ensures { λ r. ⌜ Told (λ (a : Answer). (a ≡ orElse (velocityChecks counts (field velocity (now (velocities .entry))) (field response (now (responses .entry))) (field gradient (now (gradients .entry))) (length (now (out .entry)))) (velocityAnswer (now (velocities .entry)) (now (responses .entry)) (now (gradients .entry)))) × (now (out .exit) ≡ unless (velocityChecks counts (field velocity (now (velocities .entry))) (field response (now (responses .entry))) (field gradient (now (gradients .entry))) (length (now (out .entry)))) (now (out .entry)) (handedOut a (length (now (out .entry))) (correctedVelocities (now (velocities .entry)) (now (responses .entry)) (now (gradients .entry)))))) r (now (index .exit)) ⌝ }
+    ensures { λ r. ⌜ Told (λ (a : Answer). (a ≡ orElse (velocityChecks counts (field velocity (now (velocities .entry))) (field response (now (responses .entry))) (field gradient (now (gradients .entry))) (length (now (out .entry)))) (velocityAnswer (now (velocities .entry)) (now (responses .entry)) (now (gradients .entry)))) × (now (out .exit) ≡ ifRefused (velocityChecks counts (field velocity (now (velocities .entry))) (field response (now (responses .entry))) (field gradient (now (gradients .entry))) (length (now (out .entry)))) (now (out .entry)) (handedOut a (length (now (out .entry))) (correctedVelocities (now (velocities .entry)) (now (responses .entry)) (now (gradients .entry)))))) r (now (index .exit)) ⌝ }
 {
     let a = simple::correct_cell_velocity_from_gradient(
         counts,

@@ -3,7 +3,7 @@ use mathlib.Core.List.{List}
 use Prim.Native.Nat.{ℕ, _+_, _*_}
 use lib.ListN.{getD}
 
--- the two numbers of record i of two: of a face its owner and its neighbour + 1, or its condition's code and its peer + 1; of a chain's record its item and the next record
+-- the two numbers of record i of two; mesh/specs/Records.antt has the names of a face's, and Chains.antt those of a chain's record
 abbrev pub firstAt : List ℕ → ℕ → ℕ
 firstAt s i = getD s (2 * i) 0
 

@@ -7,14 +7,21 @@ use lib.Dec.{ltb}
 use Rattle.chain.specs.declared.Found.{Found}
 use Rattle.chain.specs.declared.Found.the-variants.{Nothing, At}
 
--- every one of b, bs; some one of them
-abbrev pub everyOf : Bool → List Bool → Bool
-everyOf b [] = b
-everyOf b (a ∷ bs) = everyOf (b && a) bs
+-- whether b holds and every one of bs; whether every one of a list does
+abbrev pub allAfter : Bool → List Bool → Bool
+allAfter b [] = b
+allAfter b (a ∷ bs) = allAfter (b && a) bs
 
-abbrev pub someOf : Bool → List Bool → Bool
-someOf b [] = b
-someOf b (a ∷ bs) = someOf (b || a) bs
+abbrev pub everyOf : List Bool → Bool
+everyOf bs = allAfter true bs
+
+-- whether b holds or some one of bs; whether some one of a list does
+abbrev pub anyAfter : Bool → List Bool → Bool
+anyAfter b [] = b
+anyAfter b (a ∷ bs) = anyAfter (b || a) bs
+
+abbrev pub someOf : List Bool → Bool
+someOf bs = anyAfter false bs
 
 -- the lowest index below n at which g holds
 unfoldable pub orAt : Found → Bool → ℕ → Found

@@ -11,7 +11,7 @@ use Rattle.binary64.specs.Numbers.{zero64, isFinite, larger, _⊕_, _⊗_, _⊘
 use Rattle.binary64.specs.Root.{root}
 use Rattle.mesh.specs.Answers.{at, orElse, shape}
 use Rattle.mesh.specs.Checks.{sizesOk, lowestBadFace}
-use Rattle.mesh.specs.Pass.{firstRefusal, valueOf, handedOut, unless}
+use Rattle.mesh.specs.Pass.{firstRefusal, valueOf, handedOut, ifRefused}
 use Rattle.chain.specs.Search.{everyOf}
 use Rattle.mesh.specs.declared.Answer.{Answer}
 use Rattle.mesh.specs.declared.Answer.the-variants.{Accepted, Refused}
@@ -83,6 +83,6 @@ pub record MetricsCall (n : Counts) (adjacency : List ℕ) (places : List Float)
   pub answer :
       r ≡ orElse (metricsChecks n adjacency places flux (length oldOutflow) (length oldMetrics)) (metricsAnswer (metricsOf places (outflows (n .cells) adjacency (flux .values))))
   pub flows :
-      outflow ≡ unless (metricsChecks n adjacency places flux (length oldOutflow) (length oldMetrics)) oldOutflow (handedOut r (n .cells) (outflows (n .cells) adjacency (flux .values)))
+      outflow ≡ ifRefused (metricsChecks n adjacency places flux (length oldOutflow) (length oldMetrics)) oldOutflow (handedOut r (n .cells) (outflows (n .cells) adjacency (flux .values)))
   pub numbers :
-      metrics ≡ unless (metricsChecks n adjacency places flux (length oldOutflow) (length oldMetrics)) oldMetrics (metricsNumbers (metricsOf places (outflows (n .cells) adjacency (flux .values))))
+      metrics ≡ ifRefused (metricsChecks n adjacency places flux (length oldOutflow) (length oldMetrics)) oldMetrics (metricsNumbers (metricsOf places (outflows (n .cells) adjacency (flux .values))))

@@ -3,17 +3,17 @@ use mathlib.Core.Path.{_≡_, refl, sym, _∙_}
 use mathlib.Core.Logic.{inl, inr}
 use mathlib.Core.List.{List, [], _∷_}
 use mathlib.Core.Bool.{Bool, true, false, not, cond}
-use Prim.Native.Nat.{ℕ, _+_, _-_, _*_, _/_, _≤_, _<_}
+use Prim.Native.Nat.{ℕ, zero, suc, _+_, _-_, _*_, _/_, _≤_, _<_}
 use native.Mathlib.Nat.{eq-zero-or-pos}
 use native.Mathlib.Omega.{arith}
 use lib.Dec.{eqb, leb, ltb}
-use lib.ListN.{length}
+use lib.ListN.{length, getD}
 use borrow.Author.Tests.{eqb-true, eqb-false, ltb-true, ltb-false, leb-true, leb-false, not-false}
 use Rattle.mesh.specs.Answers.{orElse, firstOf, pass, at, shape}
-use Rattle.chain.specs.Pairs.{firstAt, secondAt}
 use Rattle.chain.specs.Search.{someOf, lowestWhere}
 use Rattle.mesh.specs.Checks.{sizeTests, sizesOk, badFace, lowestBadFace, unknownCode, lowestUnknownCode, badLink, lowestBadLink}
 use Rattle.chain.specs.Chains.{ends, headAt, cellCount, brokenCell, lowestBroken}
+use Rattle.mesh.specs.Records.{ownerAt, neighbourAt, peerAt}
 use Rattle.mesh.specs.Facts.{Small, CellsOf, FacesIn, CodesIn, ChainsIn, LinkOf, LinksIn}
 use Rattle.mesh.specs.declared.Counts.{Counts}
 use Rattle.mesh.specs.declared.Answer.{Answer}
@@ -21,7 +21,7 @@ use Rattle.mesh.specs.declared.Answer.the-variants.{Accepted, Refused}
 use Rattle.chain.specs.declared.Found.{Found}
 use Rattle.chain.specs.declared.Found.the-variants.{Nothing, At}
 use Rattle.chain.specs.declared.walk.Form.{Form}
-use Rattle.chain.proofs.Truth.{every-at, some-at}
+use Rattle.chain.proofs.Truth.{every-at, none-at}
 use Rattle.chain.proofs.Search.{none-below}
 
 -- ---- answers
@@ -40,6 +40,13 @@ unfolding at
 nothing-at k Nothing h = refl
 nothing-at k (At i) h = cc
 
+-- where a list of checks passes, each of them does
+pub all-accepted : (l : List Answer) → firstOf l ≡ Accepted → (k : ℕ) → getD l k Accepted ≡ Accepted
+unfolding firstOf
+all-accepted [] h k = refl
+all-accepted (a ∷ l) h zero = both-accepted a (firstOf l) h .0
+all-accepted (a ∷ l) h (suc k) = all-accepted l (both-accepted a (firstOf l) h .1) k
+
 pub shape-accepted : (counts lengths numbers : Bool) → shape counts lengths numbers ≡ Accepted → (counts ≡ true) × (lengths ≡ true) × (numbers ≡ true)
 unfolding shape firstOf
 shape-accepted counts lengths numbers h =
@@ -51,15 +58,17 @@ shape-accepted counts lengths numbers h =
 -- ---- each check
 pub small : (n : Counts) → sizesOk n ≡ true → Small n
 small n h =
-    let w = every-at (ltb 0 (n .cells)) (sizeTests n) h in
-    record { some = ltb-true _ _ (w .0); cells = leb-true _ _ (w .1 0); faces = leb-true _ _ (w .1 1); facings = leb-true _ _ (w .1 2); borderings = leb-true _ _ (w .1 3) }
+    let w = every-at (sizeTests n) h in
+    record { some = ltb-true _ _ (w 0); cells = leb-true _ _ (w 1); faces = leb-true _ _ (w 2); facings = leb-true _ _ (w 3); borderings = leb-true _ _ (w 4) }
 
 pub faces-in : (cells : ℕ) (adjacency : List ℕ) → lowestBadFace cells adjacency ≡ Nothing → FacesIn cells adjacency
 faces-in cells adjacency h f l =
+    let owner = ownerAt adjacency f in
+    let neighbour = neighbourAt adjacency f in
     let w =
-    some-at (leb cells (firstAt adjacency f)) (ltb cells (secondAt adjacency f) ∷ eqb (secondAt adjacency f) (firstAt adjacency f + 1) ∷ [])
+    none-at (leb cells owner ∷ ltb cells neighbour ∷ eqb neighbour (owner + 1) ∷ [])
     (none-below (badFace cells adjacency) (length adjacency / 2) f h l) in
-    record { owner = leb-false _ _ (w .0); neighbour = ltb-false _ _ (w .1 0); apart = eqb-false _ _ (w .1 1) }
+    record { owner = leb-false _ _ (w 0); neighbour = ltb-false _ _ (w 1); apart = eqb-false _ _ (w 2) }
 
 pub codes-in : (codes : List ℕ) → lowestUnknownCode codes ≡ Nothing → CodesIn codes
 codes-in codes h f l = ltb-false _ _ (none-below (unknownCode codes) (length codes / 2) f h l)
@@ -79,22 +88,22 @@ link-tests peer faces false false r ez em nz h = (ltb-false faces peer (sym em),
 pub links-in : (adjacency codes : List ℕ) → lowestBadLink adjacency codes ≡ Nothing → LinksIn adjacency codes
 unfolding badLink
 links-in adjacency codes h f l nz =
-    let peer = secondAt codes f in
+    let peer = peerAt codes f in
     let t =
     link-tests peer (length codes / 2) (eqb peer 0) (ltb (length codes / 2) peer) _ refl refl nz
     (none-below (badLink adjacency codes) (length codes / 2) f h l) in
-    let w = some-at (not (eqb (secondAt adjacency f) 0)) (eqb peer (f + 1) ∷ not (eqb (secondAt codes (peer - 1)) (f + 1)) ∷ []) (t .1) in
+    let w = none-at (not (eqb (neighbourAt adjacency f) 0) ∷ eqb peer (f + 1) ∷ not (eqb (peerAt codes (peer - 1)) (f + 1)) ∷ []) (t .1) in
     record {
-      one-cell = eqb-true _ _ (not-false _ (w .0));
+      one-cell = eqb-true _ _ (not-false _ (w 0));
       present = t .0;
-      other = eqb-false _ _ (w .1 0);
-      back = eqb-true _ _ (not-false _ (w .1 1));
+      other = eqb-false _ _ (w 1);
+      back = eqb-true _ _ (not-false _ (w 2));
     }
 
 -- a peer is a face + 1, or 0, where each link that there is has been found good
-pub peer-below : (adjacency codes : List ℕ) (faces f : ℕ) → length codes ≡ 2 * faces → ((secondAt codes f ≡ 0 → ⊥) → LinkOf adjacency codes f) → secondAt codes f ≤ faces
+pub peer-below : (adjacency codes : List ℕ) (faces f : ℕ) → length codes ≡ 2 * faces → ((peerAt codes f ≡ 0 → ⊥) → LinkOf adjacency codes f) → peerAt codes f ≤ faces
 peer-below adjacency codes faces f e links =
-    elim (eq-zero-or-pos (secondAt codes f)) [
+    elim (eq-zero-or-pos (peerAt codes f)) [
       | inl z ↦ omega arith
       | inr p ↦ let q = links (λ z. absurd (omega arith)) .present in omega arith
     ]
@@ -104,3 +113,18 @@ pub or-accepted : (a : Answer) → orElse a Accepted ≡ a
 unfolding orElse
 or-accepted Accepted = refl
 or-accepted (Refused k i) = refl
+
+-- the checks of shape, and one after them, as a list
+pub shape-first : (a b c : Bool) (x : Answer) → firstOf (pass 1 a ∷ pass 2 b ∷ pass 3 c ∷ x ∷ []) ≡ orElse (shape a b c) x
+unfolding shape firstOf orElse pass
+shape-first false b c x = refl
+shape-first true false c x = refl
+shape-first true true false x = refl
+shape-first true true true x = or-accepted x
+
+-- the first two of them
+pub shape-two : (a b : Bool) → firstOf (pass 1 a ∷ pass 2 b ∷ []) ≡ shape a b true
+unfolding shape firstOf orElse pass
+shape-two false b = refl
+shape-two true false = refl
+shape-two true true = refl

@@ -11,8 +11,8 @@ use Rattle.mesh.specs.Answers.{pass, at, orElse, firstOf}
 use Rattle.chain.specs.Search.{lower}
 use Rattle.mesh.specs.Checks.{sizesOk, lowestBadFace, lowestUnknownCode, lowestBadLink}
 use Rattle.chain.specs.Chains.{lowestBroken, Chain}
-use Rattle.chain.specs.Pairs.{firstAt, secondAt}
-use Rattle.mesh.specs.Mesh.{Mesh, Conditions, meshSizes, meshSized, conditionsSized, topology, checks, Sized, Sound, Good}
+use Rattle.mesh.specs.Records.{firstFacing, firstBordering}
+use Rattle.mesh.specs.Mesh.{Mesh, Conditions, meshSizes, meshSized, conditionsSized, lowestFour, lowestFive, topology, checks, Sized, Sound, Good}
 use Rattle.mesh.specs.declared.Answer.the-variants.{Accepted}
 use Rattle.chain.specs.declared.walk.Form.the-variants.{First, Second}
 use Rattle.chain.proofs.Truth.{and-true, every-at}
@@ -21,14 +21,14 @@ use Rattle.mesh.proofs.Facts.{both-accepted, passed, nothing-at, small,
 
 pub sized : (m : Mesh) → meshSized m ≡ true → Sized m
 sized m h =
-    let w = every-at (eqb (length (m .adjacency)) (2 * (m .counts .faces))) (meshSizes m) h in
+    let w = every-at (meshSizes m) h in
     record {
-      adjacency = eqb-true _ _ (w .0);
-      geometry = eqb-true _ _ (w .1 0);
-      heads = eqb-true _ _ (w .1 1);
-      places = eqb-true _ _ (w .1 2);
-      facing = eqb-true _ _ (w .1 3);
-      bordering = eqb-true _ _ (w .1 4);
+      adjacency = eqb-true _ _ (w 0);
+      geometry = eqb-true _ _ (w 1);
+      heads = eqb-true _ _ (w 2);
+      places = eqb-true _ _ (w 3);
+      facing = eqb-true _ _ (w 4);
+      bordering = eqb-true _ _ (w 5);
     }
 
 -- an index below a count is one below the records of a slice of that size
@@ -42,16 +42,16 @@ counted l n limit r e c = let h : length l / 2 ≡ n = omega arith in subst (λ 
 pub sound : (m : Mesh) (codes : List ℕ) → Sized m → length codes ≡ 2 * (m .counts .faces) → topology m codes ≡ Accepted → Sound m codes
 unfolding topology firstOf
 sound m codes z k h =
-    let four = both-accepted (at 4 (lower (lowestBadFace (m .counts .cells) (m .adjacency)) (lowestUnknownCode codes))) _ h in
-    let five = both-accepted (at 5 (lower (lowestBroken (m .counts .faces) (m .facing) First (m .heads)) (lowestBroken (m .counts .cells) (m .bordering) Second (m .heads)))) _ (four .1) in
+    let four = both-accepted (at 4 (lowestFour (m .counts .cells) (m .adjacency) codes)) _ h in
+    let five = both-accepted (at 5 (lowestFive m)) _ (four .1) in
     let six = both-accepted (at 6 (lowestBadLink (m .adjacency) codes)) Accepted (five .1) in
     let faces = none-lower (lowestBadFace (m .counts .cells) (m .adjacency)) (lowestUnknownCode codes) (nothing-at 4 _ (four .0)) in
     let chains = none-lower (lowestBroken (m .counts .faces) (m .facing) First (m .heads)) (lowestBroken (m .counts .cells) (m .bordering) Second (m .heads)) (nothing-at 5 _ (five .0)) in
     let none = nothing-at 6 (lowestBadLink (m .adjacency) codes) (six .0) in
     record {
       faces = λ f l. faces-in (m .counts .cells) (m .adjacency) (faces .0) f (in-records (m .counts .faces) (m .adjacency) f (z .adjacency) l);
-      facings = λ c l. counted (m .facing) (m .counts .facings) (m .counts .faces) (firstAt (m .heads) c) (z .facing) (chains-in (m .counts .faces) (m .facing) First (m .heads) (chains .0) c (in-records (m .counts .cells) (m .heads) c (z .heads) l));
-      borderings = λ c l. counted (m .bordering) (m .counts .borderings) (m .counts .cells) (secondAt (m .heads) c) (z .bordering) (chains-in (m .counts .cells) (m .bordering) Second (m .heads) (chains .1) c (in-records (m .counts .cells) (m .heads) c (z .heads) l));
+      facings = λ c l. counted (m .facing) (m .counts .facings) (m .counts .faces) (firstFacing (m .heads) c) (z .facing) (chains-in (m .counts .faces) (m .facing) First (m .heads) (chains .0) c (in-records (m .counts .cells) (m .heads) c (z .heads) l));
+      borderings = λ c l. counted (m .bordering) (m .counts .borderings) (m .counts .cells) (firstBordering (m .heads) c) (z .bordering) (chains-in (m .counts .cells) (m .bordering) Second (m .heads) (chains .1) c (in-records (m .counts .cells) (m .heads) c (z .heads) l));
       links = λ f l. links-in (m .adjacency) codes none f (in-records (m .counts .faces) codes f k l);
     }
 

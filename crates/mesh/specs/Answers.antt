@@ -7,6 +7,15 @@ use Rattle.mesh.specs.declared.Answer.the-variants.{Accepted, Refused}
 use Rattle.chain.specs.declared.Found.{Found}
 use Rattle.chain.specs.declared.Found.the-variants.{Nothing, At}
 
+-- the number and the index of an answer; an accepted call has 0 for both
+unfoldable pub numberOf : Answer → ℕ
+numberOf Accepted = 0
+numberOf (Refused k i) = k
+
+unfoldable pub indexOf : Answer → ℕ
+indexOf Accepted = 0
+indexOf (Refused k i) = i
+
 -- a test that has to pass, or refusal k with index 0
 unfoldable pub pass : ℕ → Bool → Answer
 pass k true = Accepted
@@ -17,6 +26,7 @@ unfoldable pub at : ℕ → Found → Answer
 at k Nothing = Accepted
 at k (At i) = Refused k i
 
+-- the first refusal of two answers
 unfoldable pub orElse : Answer → Answer → Answer
 orElse Accepted b = b
 orElse (Refused k i) b = Refused k i

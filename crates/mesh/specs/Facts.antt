@@ -3,30 +3,31 @@ use mathlib.Core.Path.{_≡_}
 use mathlib.Core.List.{List}
 use Prim.Native.Nat.{ℕ, _+_, _-_, _/_, _≤_, _<_}
 use lib.ListN.{length}
-use Rattle.chain.specs.Pairs.{firstAt, secondAt}
 use Rattle.chain.specs.Chains.{Chain, headAt, cellCount}
+use Rattle.mesh.specs.Checks.{largestCount}
+use Rattle.mesh.specs.Records.{ownerAt, neighbourAt, codeAt, peerAt}
 use Rattle.mesh.specs.declared.Counts.{Counts}
 use Rattle.chain.specs.declared.walk.Form.{Form}
 
 -- by check 1
 pub record Small (n : Counts) : Type 0 where
   pub some : 0 < n .cells
-  pub cells : n .cells ≤ 65535
-  pub faces : n .faces ≤ 65535
-  pub facings : n .facings ≤ 65535
-  pub borderings : n .borderings ≤ 65535
+  pub cells : n .cells ≤ largestCount
+  pub faces : n .faces ≤ largestCount
+  pub facings : n .facings ≤ largestCount
+  pub borderings : n .borderings ≤ largestCount
 
 -- by check 4: the cells of the face f
 pub record CellsOf (cells : ℕ) (adjacency : List ℕ) (f : ℕ) : Type 0 where
-  pub owner : firstAt adjacency f < cells
-  pub neighbour : secondAt adjacency f ≤ cells
-  pub apart : secondAt adjacency f ≡ firstAt adjacency f + 1 → ⊥
+  pub owner : ownerAt adjacency f < cells
+  pub neighbour : neighbourAt adjacency f ≤ cells
+  pub apart : neighbourAt adjacency f ≡ ownerAt adjacency f + 1 → ⊥
 
 abbrev pub FacesIn : ℕ → List ℕ → Type 0
 FacesIn cells adjacency = (f : ℕ) → f < length adjacency / 2 → CellsOf cells adjacency f
 
 abbrev pub CodesIn : List ℕ → Type 0
-CodesIn codes = (f : ℕ) → f < length codes / 2 → firstAt codes f ≤ 2
+CodesIn codes = (f : ℕ) → f < length codes / 2 → codeAt codes f ≤ 2
 
 -- by check 5: the chain of every cell
 abbrev pub ChainsIn : ℕ → List ℕ → Form → List ℕ → Type 0
@@ -34,10 +35,10 @@ ChainsIn limit records form heads = (c : ℕ) → c < cellCount form heads → C
 
 -- by check 6: the link of the face f, where it has one
 pub record LinkOf (adjacency codes : List ℕ) (f : ℕ) : Type 0 where
-  pub one-cell : secondAt adjacency f ≡ 0
-  pub present : secondAt codes f ≤ length codes / 2
-  pub other : secondAt codes f ≡ f + 1 → ⊥
-  pub back : secondAt codes (secondAt codes f - 1) ≡ f + 1
+  pub one-cell : neighbourAt adjacency f ≡ 0
+  pub present : peerAt codes f ≤ length codes / 2
+  pub other : peerAt codes f ≡ f + 1 → ⊥
+  pub back : peerAt codes (peerAt codes f - 1) ≡ f + 1
 
 abbrev pub LinksIn : List ℕ → List ℕ → Type 0
-LinksIn adjacency codes = (f : ℕ) → f < length codes / 2 → (secondAt codes f ≡ 0 → ⊥) → LinkOf adjacency codes f
+LinksIn adjacency codes = (f : ℕ) → f < length codes / 2 → (peerAt codes f ≡ 0 → ⊥) → LinkOf adjacency codes f

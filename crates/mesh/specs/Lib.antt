@@ -4,3 +4,4 @@ pub mod Checks
 pub mod Pass
 pub mod Facts
 pub mod Mesh
+pub mod Lent

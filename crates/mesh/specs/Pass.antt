@@ -41,7 +41,7 @@ unfoldable pub handedOutNumbers : Answer → ℕ → List ℕ → List ℕ
 handedOutNumbers Accepted n l = l
 handedOutNumbers (Refused k i) n l = replicate n 0
 
--- an output is untouched where a check of shape or mesh refuses
-unfoldable pub unless : {A : Type 0} → Answer → A → A → A
-unless Accepted old new = new
-unless (Refused k i) old new = old
+-- the first where the answer refuses, the second where it accepts
+unfoldable pub ifRefused : {A : Type 0} → Answer → A → A → A
+ifRefused (Refused k i) refused accepted = refused
+ifRefused Accepted refused accepted = accepted

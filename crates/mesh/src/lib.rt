@@ -8,12 +8,16 @@ ghost use Rattle.binary64.specs.Numbers.{zero64};
 ghost use Rattle.mesh.specs.Answers.{at, orElse, shape};
 ghost use Rattle.mesh.specs.Records.{conditionOf};
 ghost use Rattle.mesh.specs.Checks.{sizesOk, lowestBadFace, lowestUnknownCode, lowestBadLink};
-ghost use Rattle.mesh.specs.Mesh.{mesh, conditions, meshSized, conditionsSized, topology, checks};
+ghost use Rattle.mesh.specs.Lent.{meshLent, conditionsLent};
+ghost use Rattle.mesh.specs.Mesh.{meshSized, conditionsSized, links, topology, checks};
 use chain::Found;
 use vector::Vec3;
 
 pub mod inner;
 mod test;
+
+// The most that a mesh may have of cells, of faces or of records of a chain.
+pub const LARGEST_COUNT: usize = 65535;
 
 // A mesh's number, its dimension, and how many cells, faces, face records and neighbour records it
 // has.
@@ -82,10 +86,10 @@ pub fn sizes_ok(counts: Counts) -> bool
     ensures { λ r. ⌜ r ≡ sizesOk counts ⌝ }
 {
     (0 < counts.cells)
-        & (counts.cells <= 65535)
-        & (counts.faces <= 65535)
-        & (counts.facings <= 65535)
-        & (counts.borderings <= 65535)
+        & (counts.cells <= LARGEST_COUNT)
+        & (counts.faces <= LARGEST_COUNT)
+        & (counts.facings <= LARGEST_COUNT)
+        & (counts.borderings <= LARGEST_COUNT)
         & ((counts.dimension == 2) | (counts.dimension == 3))
 }
 
@@ -109,7 +113,9 @@ pub fn mesh_sized(
     facing: &[usize],
     bordering: &[usize],
 ) -> bool
-    ensures { λ r. ⌜ r ≡ meshSized (mesh counts (now (adjacency .entry)) (now (geometry .entry)) (now (heads .entry)) (now (places .entry)) (now (facing .entry)) (now (bordering .entry))) ⌝ }
+    ensures sized { λ r.
+        let m = meshLent counts adjacency geometry heads places facing bordering in
+        ⌜ r ≡ meshSized m ⌝ }
 {
     is_sized(adjacency.len(), 2, counts.faces)
         & is_sized(geometry.len(), 9, counts.faces)
@@ -227,6 +233,17 @@ pub fn clear_numbers(out: &mut [usize])
     }
 }
 
+// The checks 4 and 6 of the adjacency with conditions and links.
+pub fn check_links(cells: usize, adjacency: &[usize], codes: &[usize]) -> Answer
+    ensures { λ r. ⌜ r ≡ links cells (now (adjacency .entry)) (now (codes .entry)) ⌝ }
+{
+    let face = chain::lower_of(
+        lowest_bad_face(cells, adjacency),
+        lowest_unknown_code(codes),
+    );
+    or_else(at(4, face), at(6, lowest_bad_link(adjacency, codes)))
+}
+
 // The checks 4, 5 and 6 of a mesh with its conditions and links.
 pub fn check_topology(
     counts: Counts,
@@ -238,7 +255,9 @@ pub fn check_topology(
     bordering: &[usize],
     codes: &[usize],
 ) -> Answer
-    ensures { λ r. ⌜ r ≡ topology (mesh counts (now (adjacency .entry)) (now (geometry .entry)) (now (heads .entry)) (now (places .entry)) (now (facing .entry)) (now (bordering .entry))) (now (codes .entry)) ⌝ }
+    ensures checked { λ r.
+        let m = meshLent counts adjacency geometry heads places facing bordering in
+        ⌜ r ≡ topology m (now (codes .entry)) ⌝ }
 {
     let face = chain::lower_of(
         lowest_bad_face(counts.cells, adjacency),
@@ -275,7 +294,9 @@ pub fn check(
     codes: &[usize],
     values: &[f64],
 ) -> Answer
-    ensures { λ r. ⌜ r ≡ checks (mesh counts (now (adjacency .entry)) (now (geometry .entry)) (now (heads .entry)) (now (places .entry)) (now (facing .entry)) (now (bordering .entry))) (conditions number (now (codes .entry)) (now (values .entry))) ⌝ }
+    ensures checked { λ r.
+        let m = meshLent counts adjacency geometry heads places facing bordering in
+        ⌜ r ≡ checks m (conditionsLent number codes values) ⌝ }
 {
     if !sizes_ok(counts) {
         return Answer::Refused(1, 0);

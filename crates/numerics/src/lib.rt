@@ -1,7 +1,7 @@
 // Operators on a mesh: the gradient from a lent stencil, and the outflow of each cell.
 ghost use mathlib.Core.Path.{_≡_};
 ghost use lib.ListN.{length};
-ghost use Rattle.mesh.specs.Pass.{unless};
+ghost use Rattle.mesh.specs.Pass.{ifRefused};
 ghost use Rattle.numerics.specs.Slices.{lengths, stencilSized, slices};
 ghost use Rattle.numerics.specs.Gradient.{gradients, lentChecks, gradientChecks};
 ghost use Rattle.numerics.specs.Outflow.{outflows, outflowChecks, Scattered};
@@ -83,7 +83,7 @@ pub fn least_squares_gradient(
     out: &mut [f64],
 ) -> Answer
     ensures { λ r. ⌜ r ≡ gradientChecks counts stencil records (slices (now (starts .entry)) (now (equations .entry)) (now (weights .entry)) (now (inverses .entry))) number (now (field .entry)) (length (now (out .entry))) ⌝ }
-    ensures { λ r. ⌜ now (out .exit) ≡ unless r (now (out .entry)) (gradients (slices (now (starts .entry)) (now (equations .entry)) (now (weights .entry)) (now (inverses .entry))) records (now (field .entry)) (counts .cells)) ⌝ }
+    ensures { λ r. ⌜ now (out .exit) ≡ ifRefused r (now (out .entry)) (gradients (slices (now (starts .entry)) (now (equations .entry)) (now (weights .entry)) (now (inverses .entry))) records (now (field .entry)) (counts .cells)) ⌝ }
 {
     let a = check_gradient(
         counts,
@@ -145,7 +145,7 @@ pub fn integrated_divergence(
     out: &mut [f64],
 ) -> Answer
     ensures { λ r. ⌜ r ≡ outflowChecks counts (now (adjacency .entry)) number (now (flux .entry)) (length (now (out .entry))) ⌝ }
-    ensures { λ r. ⌜ now (out .exit) ≡ unless r (now (out .entry)) (outflows (counts .cells) (now (adjacency .entry)) (now (flux .entry))) ⌝ }
+    ensures { λ r. ⌜ now (out .exit) ≡ ifRefused r (now (out .entry)) (outflows (counts .cells) (now (adjacency .entry)) (now (flux .entry))) ⌝ }
     ensures { λ r. ⌜ Scattered r (counts .cells) (now (adjacency .entry)) (now (flux .entry)) (now (out .exit)) ⌝ }
 {
     let a = check_flux(counts, adjacency, number, flux, out.len());

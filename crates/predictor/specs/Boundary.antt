@@ -10,7 +10,7 @@ use Rattle.binary64.specs.Numbers.{zero64}
 use Rattle.mesh.specs.Answers.{at, orElse, shape}
 use Rattle.mesh.specs.Checks.{sizesOk, lowestBadFace, lowestUnknownCode, lowestBadLink}
 use Rattle.mesh.specs.Mesh.{Conditions, conditionsSized}
-use Rattle.mesh.specs.Pass.{valuesOf, handedOut, unless}
+use Rattle.mesh.specs.Pass.{valuesOf, handedOut, ifRefused}
 use Rattle.chain.specs.Pairs.{secondAt}
 use Rattle.mesh.specs.Records.{conditionAt, linkAt}
 use Rattle.chain.specs.Search.{lower}
@@ -89,7 +89,7 @@ boundaryChecks n m k responses outs =
 pub record BoundaryCall (n : Counts) (m : Grid) (k : Conditions) (responses : Field) (old : List Float) (r : Answer) (new : List Float) : Type 0 where
   pub answer : r ≡ orElse (boundaryChecks n m k responses (length old)) (boundaryAnswer m (boundsOf k) (responses .values) (n .faces))
   pub out :
-      new ≡ unless (boundaryChecks n m k responses (length old)) old (handedOut r (n .faces) (boundaryCoefficients m (boundsOf k) (responses .values) (n .faces)))
+      new ≡ ifRefused (boundaryChecks n m k responses (length old)) old (handedOut r (n .faces) (boundaryCoefficients m (boundsOf k) (responses .values) (n .faces)))
 
 -- what the checks establish of the conditions of so many faces
 pub record Bounded (k : Bounds) (faces : ℕ) : Type 0 where

@@ -9,7 +9,7 @@ use lib.Ieee.{Float, nan}
 use Rattle.mesh.specs.Answers.{at, orElse, shape}
 use Rattle.chain.specs.Chains.{lowestBroken}
 use Rattle.mesh.specs.Checks.{sizesOk, lowestBadFace}
-use Rattle.mesh.specs.Pass.{valueOf, valuesOf, handedOut, unless}
+use Rattle.mesh.specs.Pass.{valueOf, valuesOf, handedOut, ifRefused}
 use Rattle.vector.specs.Vector.{vectorAt}
 use Rattle.chain.specs.Search.{everyOf}
 use Rattle.mesh.specs.declared.Answer.{Answer}
@@ -117,9 +117,9 @@ pub record PredictionCall (n : Counts) (m : Grid) (stencil records : ℕ) (s : S
   pub answer :
       r ≡ orElse (predictionChecks n m stencil records s l (length oldSlopes) (length old)) (predictionAnswer m (flowOf n records s l) (l .walls .values))
   pub gradient :
-      slopes ≡ unless (predictionChecks n m stencil records s l (length oldSlopes) (length old)) oldSlopes (handedOut r (3 * (n .cells)) (gradients s records (l .pressure .values) (n .cells)))
+      slopes ≡ ifRefused (predictionChecks n m stencil records s l (length oldSlopes) (length old)) oldSlopes (handedOut r (3 * (n .cells)) (gradients s records (l .pressure .values) (n .cells)))
   pub out :
-      new ≡ unless (predictionChecks n m stencil records s l (length oldSlopes) (length old)) old (handedOut r (n .faces) (predictedFluxes m (flowOf n records s l) (l .walls .values)))
+      new ≡ ifRefused (predictionChecks n m stencil records s l (length oldSlopes) (length old)) old (handedOut r (n .faces) (predictedFluxes m (flowOf n records s l) (l .walls .values)))
 
 -- what the checks establish of a flow on so many faces
 pub record Flowing (m : Grid) (q : Flow) (faces : ℕ) : Type 0 where

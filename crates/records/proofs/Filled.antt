@@ -6,7 +6,7 @@ use native.Mathlib.Omega.{arith}
 use lib.ListN.{length, take, set, length-set}
 use lib.Seq.{take-suc-set, take-all}
 use lib.Ieee.{Float}
-use Rattle.mesh.specs.Pass.{unless}
+use Rattle.mesh.specs.Pass.{ifRefused}
 use Rattle.mesh.specs.declared.Answer.{Answer}
 use Rattle.mesh.specs.declared.Answer.the-variants.{Accepted, Refused}
 use Rattle.mesh.specs.declared.Counts.{Counts}
@@ -41,8 +41,8 @@ all-filled h l =
     sym (take-all (length l) (filled h l (length l)) (omega arith)) ∙ take-filled h l (length l) (omega arith)
 
 -- a call that writes any record was accepted, and has that record
-pub wrote : (a : Answer) (m k i : ℕ) → k ≡ unless a 0 m → i < k → (a ≡ Accepted) × (i < m)
-unfolding unless
+pub wrote : (a : Answer) (m k i : ℕ) → k ≡ ifRefused a 0 m → i < k → (a ≡ Accepted) × (i < m)
+unfolding ifRefused
 wrote Accepted m k i e l = (refl, omega arith)
 wrote (Refused r j) m k i e l = absurd (omega arith)
 
@@ -51,15 +51,15 @@ module _ (n : Counts) (stencil records : ℕ) (s : Slices) (number : ℕ) (field
   Checked a = a ≡ gradientChecks n stencil records s number field (3 * length old)
 
   -- what the work asks of a cell below the count
-  pub sloped : (a : Answer) (k i : ℕ) → Checked a → k ≡ unless a 0 (length old) → i < k → Sloped s records field × (i < length field) × (i < length old)
+  pub sloped : (a : Answer) (k i : ℕ) → Checked a → k ≡ ifRefused a 0 (length old) → i < k → Sloped s records field × (i < length field) × (i < length old)
   sloped a k i c e l =
       let w = wrote a (length old) k i e l in
       let p = slopes n stencil records s number field (3 * length old) (sym c ∙ w .0) in
       (p .0, omega (arith, w .1, p .1, p .2), w .1)
 
   -- what is left after the loop
-  pub handed : (a : Answer) (k : ℕ) → Checked a → k ≡ unless a 0 (length old) → filled (gradientAt s records field) old k ≡ unless a old (vectors (gradients s records field (n .cells)))
-  unfolding unless gradients filled
+  pub handed : (a : Answer) (k : ℕ) → Checked a → k ≡ ifRefused a 0 (length old) → filled (gradientAt s records field) old k ≡ ifRefused a old (vectors (gradients s records field (n .cells)))
+  unfolding ifRefused gradients filled
   handed Accepted k c e =
       let p = slopes n stencil records s number field (3 * length old) (sym c) in
       let cells : length old ≡ n .cells = omega (arith, p .2) in

@@ -2,7 +2,7 @@
 ghost use mathlib.Core.Path.{_≡_};
 ghost use Prim.Native.Nat.{_*_};
 ghost use lib.ListN.{length};
-ghost use Rattle.mesh.specs.Pass.{unless};
+ghost use Rattle.mesh.specs.Pass.{ifRefused};
 ghost use Rattle.numerics.specs.Slices.{slices};
 ghost use Rattle.numerics.specs.Gradient.{gradients, gradientChecks};
 ghost use Rattle.records.specs.Records.{vectors};
@@ -41,7 +41,7 @@ fn check(
 
 // How many of so many records a call with this answer writes.
 fn written(answer: Answer, outs: usize) -> usize
-    ensures { λ r. ⌜ r ≡ unless answer 0 outs ⌝ }
+    ensures { λ r. ⌜ r ≡ ifRefused answer 0 outs ⌝ }
 {
     match answer {
         Answer::Accepted => outs,
@@ -64,7 +64,7 @@ pub fn least_squares_gradient(
     out: &mut [Vec3],
 ) -> Answer
     ensures { λ r. ⌜ r ≡ gradientChecks counts stencil records (slices (now (starts .entry)) (now (equations .entry)) (now (weights .entry)) (now (inverses .entry))) number (now (field .entry)) (3 * length (now (out .entry))) ⌝ }
-    ensures { λ r. ⌜ now (out .exit) ≡ unless r (now (out .entry)) (vectors (gradients (slices (now (starts .entry)) (now (equations .entry)) (now (weights .entry)) (now (inverses .entry))) records (now (field .entry)) (counts .cells))) ⌝ }
+    ensures { λ r. ⌜ now (out .exit) ≡ ifRefused r (now (out .entry)) (vectors (gradients (slices (now (starts .entry)) (now (equations .entry)) (now (weights .entry)) (now (inverses .entry))) records (now (field .entry)) (counts .cells))) ⌝ }
 {
     let outs = out.len();
     let answer = check(

@@ -5,7 +5,7 @@ use Prim.Native.Nat.{ℕ}
 use lib.ListN.{length}
 use lib.Ieee.{Float}
 use Rattle.mesh.specs.Answers.{orElse}
-use Rattle.mesh.specs.Pass.{handedOut, unless}
+use Rattle.mesh.specs.Pass.{handedOut, ifRefused}
 use Rattle.mesh.specs.Mesh.{Conditions}
 use Rattle.mesh.specs.declared.Answer.{Answer}
 use Rattle.mesh.specs.declared.Answer.the-variants.{Accepted, Refused}
@@ -22,7 +22,7 @@ module _ (n : Counts) (adjacency : List ℕ) (k : Conditions) (l : Fields) (old 
   lent = correctingBy adjacency k l
 
   pub after-work : (r : Answer) (new : List Float) → checked ≡ Accepted → r ≡ correctionAnswer lent → new ≡ handedOut r (length (l .predicted .values)) (correctedFluxes lent) → CorrectionCall n adjacency k l old r new × Promised r adjacency k l new
-  unfolding orElse unless
+  unfolding orElse ifRefused
   after-work r new passed e o =
       let a = sym is ∙ passed in
       let p = correction-passed n adjacency k l (length old) checked is passed in (
@@ -31,7 +31,7 @@ module _ (n : Counts) (adjacency : List ℕ) (k : Conditions) (l : Fields) (old 
       )
 
   pub after-refusal : (j i : ℕ) → checked ≡ Refused j i → CorrectionCall n adjacency k l old (Refused j i) old × Promised (Refused j i) adjacency k l old
-  unfolding orElse unless
+  unfolding orElse ifRefused
   after-refusal j i refused =
       let a = sym is ∙ refused in
       (record { answer = rw a; out = rw a }, λ ok. absurd (never-accepted _ _ ok))

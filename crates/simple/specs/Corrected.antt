@@ -9,7 +9,7 @@ use lib.Ieee.{Float}
 use Rattle.mesh.specs.Answers.{orElse, shape}
 use Rattle.mesh.specs.Checks.{sizesOk}
 use Rattle.mesh.specs.Mesh.{Conditions, conditionsSized}
-use Rattle.mesh.specs.Pass.{handedOut, unless}
+use Rattle.mesh.specs.Pass.{handedOut, ifRefused}
 use Rattle.chain.specs.Search.{everyOf}
 use Rattle.mesh.specs.declared.Answer.{Answer}
 use Rattle.mesh.specs.declared.Answer.the-variants.{Accepted}
@@ -58,7 +58,7 @@ correctionChecks n adjacency k l outs =
 pub record CorrectionCall (n : Counts) (adjacency : List ℕ) (k : Conditions) (l : Fields) (old : List Float) (r : Answer) (new : List Float) : Type 0 where
   pub answer : r ≡ orElse (correctionChecks n adjacency k l (length old)) (correctionAnswer (correctingBy adjacency k l))
   pub out :
-      new ≡ unless (correctionChecks n adjacency k l (length old)) old (handedOut r (n .faces) (correctedFluxes (correctingBy adjacency k l)))
+      new ≡ ifRefused (correctionChecks n adjacency k l (length old)) old (handedOut r (n .faces) (correctedFluxes (correctingBy adjacency k l)))
 
 -- kept and opposite fluxes, of an accepted call
 abbrev pub Promised : Answer → List ℕ → Conditions → Fields → List Float → Type 0

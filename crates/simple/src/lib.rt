@@ -8,7 +8,7 @@ ghost use Rattle.mesh.specs.Answers.{at, orElse};
 ghost use Rattle.chain.specs.Chains.{lowestBroken};
 ghost use Rattle.mesh.specs.Checks.{lowestBadFace};
 ghost use Rattle.mesh.specs.Mesh.{conditions};
-ghost use Rattle.mesh.specs.Pass.{handedOut, unless};
+ghost use Rattle.mesh.specs.Pass.{handedOut, ifRefused};
 ghost use Rattle.chain.specs.declared.walk.Form.the-variants.{Single};
 ghost use Rattle.numerics.specs.Slices.{slices};
 ghost use Rattle.predictor.specs.Boundary.{links, boundaryChecks, BoundaryCall};
@@ -45,7 +45,7 @@ fn check_diagonal(counts: Counts, diagonal: &[f64], outs: usize) -> Answer
 // One over the momentum diagonal of each cell.
 pub fn momentum_inverse_diagonal(counts: Counts, diagonal: &[f64], out: &mut [f64]) -> Answer
     ensures { λ r. ⌜ r ≡ orElse (diagonalChecks counts (now (diagonal .entry)) (length (now (out .entry)))) (inverseAnswer (now (diagonal .entry))) ⌝ }
-    ensures { λ r. ⌜ now (out .exit) ≡ unless (diagonalChecks counts (now (diagonal .entry)) (length (now (out .entry)))) (now (out .entry)) (handedOut r (counts .cells) (inverses (now (diagonal .entry)))) ⌝ }
+    ensures { λ r. ⌜ now (out .exit) ≡ ifRefused (diagonalChecks counts (now (diagonal .entry)) (length (now (out .entry)))) (now (out .entry)) (handedOut r (counts .cells) (inverses (now (diagonal .entry)))) ⌝ }
 {
     let a = check_diagonal(counts, diagonal, out.len());
     match a {
@@ -86,7 +86,7 @@ pub fn pressure_face_coefficients(
     out: &mut [f64],
 ) -> Answer
     ensures { λ r. ⌜ r ≡ orElse (coefficientChecks counts (grid (now (adjacency .entry)) (now (geometry .entry)) (now (places .entry))) (field response (now (responses .entry))) (length (now (out .entry)))) (coefficientAnswer (grid (now (adjacency .entry)) (now (geometry .entry)) (now (places .entry))) (now (responses .entry)) (counts .faces)) ⌝ }
-    ensures { λ r. ⌜ now (out .exit) ≡ unless (coefficientChecks counts (grid (now (adjacency .entry)) (now (geometry .entry)) (now (places .entry))) (field response (now (responses .entry))) (length (now (out .entry)))) (now (out .entry)) (handedOut r (counts .faces) (coefficients (grid (now (adjacency .entry)) (now (geometry .entry)) (now (places .entry))) (now (responses .entry)) (counts .faces))) ⌝ }
+    ensures { λ r. ⌜ now (out .exit) ≡ ifRefused (coefficientChecks counts (grid (now (adjacency .entry)) (now (geometry .entry)) (now (places .entry))) (field response (now (responses .entry))) (length (now (out .entry)))) (now (out .entry)) (handedOut r (counts .faces) (coefficients (grid (now (adjacency .entry)) (now (geometry .entry)) (now (places .entry))) (now (responses .entry)) (counts .faces))) ⌝ }
 {
     let a = check_coefficients(
         counts,
@@ -514,7 +514,7 @@ pub fn correct_cell_velocity_from_gradient(
     out: &mut [f64],
 ) -> Answer
     ensures { λ r. ⌜ r ≡ orElse (velocityChecks counts (field velocity (now (velocities .entry))) (field response (now (responses .entry))) (field gradient (now (gradients .entry))) (length (now (out .entry)))) (velocityAnswer (now (velocities .entry)) (now (responses .entry)) (now (gradients .entry))) ⌝ }
-    ensures { λ r. ⌜ now (out .exit) ≡ unless (velocityChecks counts (field velocity (now (velocities .entry))) (field response (now (responses .entry))) (field gradient (now (gradients .entry))) (length (now (out .entry)))) (now (out .entry)) (handedOut r (length (now (out .entry))) (correctedVelocities (now (velocities .entry)) (now (responses .entry)) (now (gradients .entry)))) ⌝ }
+    ensures { λ r. ⌜ now (out .exit) ≡ ifRefused (velocityChecks counts (field velocity (now (velocities .entry))) (field response (now (responses .entry))) (field gradient (now (gradients .entry))) (length (now (out .entry)))) (now (out .entry)) (handedOut r (length (now (out .entry))) (correctedVelocities (now (velocities .entry)) (now (responses .entry)) (now (gradients .entry)))) ⌝ }
 {
     let a = check_velocity(
         counts,

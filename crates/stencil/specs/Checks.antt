@@ -7,7 +7,7 @@ use lib.Dec.{eqb, leb}
 use Rattle.mesh.specs.Answers.{pass, orElse, firstOf}
 use Rattle.mesh.specs.Checks.{sizesOk}
 use Rattle.mesh.specs.Mesh.{Mesh, Conditions, meshSized, conditionsSized, topology}
-use Rattle.mesh.specs.Pass.{unless}
+use Rattle.mesh.specs.Pass.{ifRefused}
 use Rattle.mesh.specs.declared.Answer.{Answer}
 use Rattle.numerics.specs.Slices.{Lengths, stencilSized, Slices, lengthsOf}
 use Rattle.stencil.specs.Lent.{Lent, lent}
@@ -28,7 +28,7 @@ lentOf m k = lent (m .counts) (m .adjacency) (m .geometry) (m .heads) (m .places
 -- the answer, and what the slices hold after the call: untouched where a check refuses, else as the stencil is handed out
 pub record StencilCall (m : Mesh) (k : Conditions) (records : ℕ) (old : Slices) (r : Answer) (new : Slices) : Type 0 where
   pub answer : r ≡ orElse (stencilChecks m k records (lengthsOf old)) (stencilAnswer (lentOf m k) records)
-  pub starts : new .starts ≡ unless (stencilChecks m k records (lengthsOf old)) (old .starts) (stencilStarts (lentOf m k) records)
-  pub equations : new .equations ≡ unless (stencilChecks m k records (lengthsOf old)) (old .equations) (stencilEquations (lentOf m k) records)
-  pub weights : new .weights ≡ unless (stencilChecks m k records (lengthsOf old)) (old .weights) (stencilWeights (lentOf m k) records)
-  pub inverses : new .inverses ≡ unless (stencilChecks m k records (lengthsOf old)) (old .inverses) (stencilInverses (lentOf m k) records)
+  pub starts : new .starts ≡ ifRefused (stencilChecks m k records (lengthsOf old)) (old .starts) (stencilStarts (lentOf m k) records)
+  pub equations : new .equations ≡ ifRefused (stencilChecks m k records (lengthsOf old)) (old .equations) (stencilEquations (lentOf m k) records)
+  pub weights : new .weights ≡ ifRefused (stencilChecks m k records (lengthsOf old)) (old .weights) (stencilWeights (lentOf m k) records)
+  pub inverses : new .inverses ≡ ifRefused (stencilChecks m k records (lengthsOf old)) (old .inverses) (stencilInverses (lentOf m k) records)

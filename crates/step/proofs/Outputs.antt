@@ -4,7 +4,7 @@ use Prim.Native.Nat.{ℕ, _<_}
 use lib.Dec.{T}
 use lib.ListN.{length, getD}
 use lib.Ieee.{nan, binary64, fits}
-use Rattle.mesh.specs.Pass.{unless}
+use Rattle.mesh.specs.Pass.{ifRefused}
 use Rattle.mesh.specs.declared.Answer.{Answer}
 use Rattle.mesh.specs.declared.Answer.the-variants.{Accepted}
 use Rattle.scheme.specs.Demand.{DemandThree}
@@ -24,8 +24,8 @@ same-cleared a b s e w i g p k f o m = rw (s, e, w, i, g, p, k, f, o, m)
 
 -- what an accepted step hands out meets it
 module _ (d : Given) (ready : Lendable d) (fit : (f : ℕ) → f < length (d .walls .values) → T (fits binary64 (getD (d .walls .values) f nan))) where
-  pub delivered : (r : Answer) (old new : Handed) → r ≡ workAnswer d → new ≡ unless r (cleared old) (results d) → r ≡ Accepted → DemandThree d (new .flux) (new .outflow)
-  unfolding unless
+  pub delivered : (r : Answer) (old new : Handed) → r ≡ workAnswer d → new ≡ ifRefused r (cleared old) (results d) → r ≡ Accepted → DemandThree d (new .flux) (new .outflow)
+  unfolding ifRefused
   delivered r old new h e ok =
       let out : new ≡ results d = e ∙ rw ok in
       subst (λ (h : Handed). DemandThree d (h .flux) (h .outflow)) (sym out) (demanded d ready fit (sym h ∙ ok))

@@ -10,7 +10,7 @@ use Rattle.binary64.specs.Numbers.{zero64}
 use Rattle.mesh.specs.Answers.{orElse, shape}
 use Rattle.mesh.specs.Checks.{sizesOk}
 use Rattle.mesh.specs.Mesh.{meshSized, conditionsSized, topology}
-use Rattle.mesh.specs.Pass.{unless}
+use Rattle.mesh.specs.Pass.{ifRefused}
 use Rattle.chain.specs.Search.{everyOf}
 use Rattle.mesh.specs.declared.Answer.{Answer}
 use Rattle.mesh.specs.declared.Answer.the-variants.{Accepted}
@@ -122,7 +122,7 @@ cleared old =
 -- the answer, and what the outputs hold after the call: untouched where a check refuses, cleared where arithmetic does
 pub record StepCall (d : Given) (old : Handed) (r : Answer) (new : Handed) : Type 0 where
   pub answer : r ≡ orElse (stepChecks d old) (workAnswer d)
-  pub outputs : new ≡ unless (stepChecks d old) old (unless r (cleared old) (results d))
+  pub outputs : new ≡ ifRefused (stepChecks d old) old (ifRefused r (cleared old) (results d))
 
 -- what the checks establish of the outputs
 pub record OutputsFit (n : Counts) (records : ℕ) (old : Handed) : Type 0 where

@@ -4,7 +4,7 @@ ghost use Prim.Native.Nat.{_*_, _≤_, _<_};
 ghost use lib.ListN.{length};
 ghost use Rattle.mesh.specs.Answers.{orElse};
 ghost use Rattle.mesh.specs.Mesh.{mesh};
-ghost use Rattle.mesh.specs.Pass.{unless};
+ghost use Rattle.mesh.specs.Pass.{ifRefused};
 ghost use Rattle.numerics.specs.Slices.{slices};
 ghost use Rattle.numerics.specs.Gradient.{gradients};
 ghost use Rattle.stencil.specs.Lent.{lent, Good};
@@ -314,7 +314,7 @@ pub(crate) fn carry_out(
     requires { ⌜ Lendable (alike (mesh counts (now adjacency) (now geometry) (now heads) (now places) (now facing) (now bordering)) (now codes) (now values) records (now velocities) (now pressures) (now responses) (now walls) (now corrections)) ⌝ }
     requires { ⌜ OutputsFit counts records (handed (now starts) (now equations) (now weights) (now inverses) (now gradient) (now predicted) (now coefficients) (now flux) (now outflow) (now metrics)) ⌝ }
     ensures { λ r. ⌜ r ≡ workAnswer (alike (mesh counts (now (adjacency .entry)) (now (geometry .entry)) (now (heads .entry)) (now (places .entry)) (now (facing .entry)) (now (bordering .entry))) (now (codes .entry)) (now (values .entry)) records (now (velocities .entry)) (now (pressures .entry)) (now (responses .entry)) (now (walls .entry)) (now (corrections .entry))) ⌝ }
-    ensures { λ r. ⌜ (handed (now (starts .exit)) (now (equations .exit)) (now (weights .exit)) (now (inverses .exit)) (now (gradient .exit)) (now (predicted .exit)) (now (coefficients .exit)) (now (flux .exit)) (now (outflow .exit)) (now (metrics .exit))) ≡ unless r (cleared (handed (now (starts .entry)) (now (equations .entry)) (now (weights .entry)) (now (inverses .entry)) (now (gradient .entry)) (now (predicted .entry)) (now (coefficients .entry)) (now (flux .entry)) (now (outflow .entry)) (now (metrics .entry)))) (results (alike (mesh counts (now (adjacency .entry)) (now (geometry .entry)) (now (heads .entry)) (now (places .entry)) (now (facing .entry)) (now (bordering .entry))) (now (codes .entry)) (now (values .entry)) records (now (velocities .entry)) (now (pressures .entry)) (now (responses .entry)) (now (walls .entry)) (now (corrections .entry)))) ⌝ }
+    ensures { λ r. ⌜ (handed (now (starts .exit)) (now (equations .exit)) (now (weights .exit)) (now (inverses .exit)) (now (gradient .exit)) (now (predicted .exit)) (now (coefficients .exit)) (now (flux .exit)) (now (outflow .exit)) (now (metrics .exit))) ≡ ifRefused r (cleared (handed (now (starts .entry)) (now (equations .entry)) (now (weights .entry)) (now (inverses .entry)) (now (gradient .entry)) (now (predicted .entry)) (now (coefficients .entry)) (now (flux .entry)) (now (outflow .entry)) (now (metrics .entry)))) (results (alike (mesh counts (now (adjacency .entry)) (now (geometry .entry)) (now (heads .entry)) (now (places .entry)) (now (facing .entry)) (now (bordering .entry))) (now (codes .entry)) (now (values .entry)) records (now (velocities .entry)) (now (pressures .entry)) (now (responses .entry)) (now (walls .entry)) (now (corrections .entry)))) ⌝ }
 {
     let a = run(
         counts,

@@ -5,7 +5,7 @@ use mathlib.Core.List.{List}
 use lib.ListN.{length, getD}
 use lib.Ieee.{Float, nan}
 use denote.Ref.{now}
-use Rattle.mesh.specs.Pass.{unless}
+use Rattle.mesh.specs.Pass.{ifRefused}
 use Rattle.mesh.specs.declared.Answer.the-variants.{Accepted}
 use Rattle.numerics.specs.Outflow.{outflows, outflowChecks}
 use Rattle.numerics.proofs.Flows.{flows}
@@ -34,7 +34,7 @@ same-length : tie.Need-same-length
 same-length c = search needs
 
 returns : tie.Need-returns
-unfolding unless
+unfolding ifRefused
 returns c =
     let s : tie.Start = search in
     let k : tie.After-check-flux = search in
@@ -48,7 +48,7 @@ returns c =
     )
 
 returns-2 : tie.Need-returns-2
-unfolding unless
+unfolding ifRefused
 returns-2 c = let k : tie.After-check-flux = search in (sym (c .before .a .given .1) ∙ k .check-flux .ensures, (refl, λ e i h. cc))
 
 pub integrated-divergence-spec : {M : Type 1} → statement M

@@ -4,7 +4,7 @@ use mathlib.Core.Bool.{Bool}
 use Prim.Native.Nat.{ℕ, _*_}
 use lib.ListN.{length}
 use denote.Ref.{now}
-use Rattle.mesh.specs.Pass.{unless}
+use Rattle.mesh.specs.Pass.{ifRefused}
 use Rattle.mesh.specs.declared.Answer.the-variants.{Accepted}
 use Rattle.numerics.specs.Slices.{slices}
 use Rattle.numerics.specs.Gradient.{gradients, lentChecks, gradientChecks}
@@ -47,7 +47,7 @@ same-length : tie.Need-same-length
 same-length c = search needs
 
 returns : tie.Need-returns
-unfolding unless
+unfolding ifRefused
 returns c =
     let s : tie.Start = search in
     let k : tie.After-check-gradient = search in
@@ -58,7 +58,7 @@ returns c =
     (a, w .least-squares-gradient .ensures ∙ ap (λ (n : ℕ). gradients (slices (now (s .args .starts)) (now (s .args .equations)) (now (s .args .weights)) (now (s .args .inverses))) (s .args .records) (now (s .args .field)) n) o)
 
 returns-2 : tie.Need-returns-2
-unfolding unless
+unfolding ifRefused
 returns-2 c = let k : tie.After-check-gradient = search in (sym (c .before .a .given .1) ∙ checked k, refl)
 
 pub least-squares-gradient-spec : {M : Type 1} → statement M

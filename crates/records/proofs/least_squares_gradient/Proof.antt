@@ -53,7 +53,7 @@ use denote.Triple.Clauses.{ensured, lasts}
 use denote.Triple.Table.{entered, cited}
 use denote.Triple.Walked.{says, Stays, stay-slice, stay-dropped, onExit, walkOf, goes-slice, goes-dropped, Walks, ends-at, walked, walk-meets}
 use denote.Exit.{yes}
-use Rattle.mesh.specs.Pass.{unless}
+use Rattle.mesh.specs.Pass.{ifRefused}
 use Rattle.mesh.specs.declared.Answer.{Answer}
 use Rattle.mesh.specs.declared.Counts.{Counts}
 use Rattle.vector.specs.declared.Vec3.{Vec3}
@@ -198,12 +198,12 @@ module _ {M : Type 1} (𝓤 : URA M) (H : Heap 𝓤) (A : Atoms 𝓤) (W : Given
       -- [the slice's and true; token 5]
       move ! (1 ∷ []) $ frame ! $ fsplit ! $ fsplit ! $ drop ! $ fsplit ! $ keep ! (0 ∷ 1 ∷ []) $ done !
 
-  exits : (zs : List Vec3) (a : Answer) (w : Val) → Room T.the-row m → length zs ≡ m → Is-checked a → zs ≡ unless a ys (vectors (gradients s rec (F .now) (n .cells)))
+  exits : (zs : List Vec3) (a : Answer) (w : Val) → Room T.the-row m → length zs ≡ m → Is-checked a → zs ≡ ifRefused a ys (vectors (gradients s rec (F .now) (n .cells)))
       → ent 𝓤 (⋆ 𝓤 H A (‵ (Seen zs) ∷ ‵ (fbor κ₅ (Held T.the-row (length zs) b o γ)) ∷ ‵ (flft κ₅ q₅) ∷ Tok ∷ ‵ (R.the-row .own a (w ∷ [])) ∷ [])) (Post w)
   exits zs a w room e checked is =
       qed W (‵ (Seen zs) ∷ ‵ (fbor κ₅ (Held T.the-row (length zs) b o γ)) ∷ ‵ (flft κ₅ q₅) ∷ Tok ∷ ‵ (R.the-row .own a (w ∷ [])) ∷ []) ∵
       suffices ! _ (ends-at 𝓤 H A f.ended stayed (f.clauses 𝓤 H A at-mem run) W ((κs, qs, tt, x, vals), tt) w a (tt, (tt, (tt, (tt, (tt, (tt, (tt, (tt, (tt, (zs, tt)))))))))) (tt, (tt, (tt, (tt, (tt, (tt, (tt, (tt, (tt, (e, tt))))))))))) $
-      suffices ! _ (assoc∗ 𝓤 (onExit 𝓤 H A f.ended stayed κs qs vals w a x (tt, (tt, (tt, (tt, (tt, (tt, (tt, (tt, (tt, (zs, tt))))))))))) (fact 𝓤 (Is-checked a)) (fact 𝓤 (zs ≡ unless a ys (vectors (gradients s rec (F .now) (n .cells)))))) $ says ! is $ says ! checked $
+      suffices ! _ (assoc∗ 𝓤 (onExit 𝓤 H A f.ended stayed κs qs vals w a x (tt, (tt, (tt, (tt, (tt, (tt, (tt, (tt, (tt, (zs, tt))))))))))) (fact 𝓤 (Is-checked a)) (fact 𝓤 (zs ≡ ifRefused a ys (vectors (gradients s rec (F .now) (n .cells)))))) $ says ! is $ says ! checked $
       move ! (3 ∷ 2 ∷ []) $ use2 W (Six 𝓤 κ₀ κ₁ κ₂ κ₃ κ₄ q₀ q₁ q₂ q₃ q₄ κ₅ q₅) (token-in 𝓤 κ₀ κ₁ κ₂ κ₃ κ₄ q₀ q₁ q₂ q₃ q₄ H A W κ₅ q₅) $ frame ! $
       fjoin ! $ pureI ! (at-slice T.the-row (out zs) (vo ∷ [])) (tt, (tt, tt)) (ap (λ (k : ℕ). sliceVal (b, o) k ∷ []) (sym e), subst (Room T.the-row) (sym e) room) $ fjoin ! $ nothing ! $ move ! (1 ∷ 0 ∷ []) $ fjoin ! $
       nothing ! $ fjoin ! $ nothing ! $ fjoin ! $ nothing ! $ fjoin ! $ nothing ! $ fjoin ! $ nothing ! $ fjoin ! $ nothing ! $ fjoin ! $ nothing ! $ fjoin ! $ nothing ! $ fjoin ! $ nothing ! $ fjoin ! $
@@ -232,8 +232,8 @@ module _ {M : Type 1} (𝓤 : URA M) (H : Heap 𝓤) (A : Atoms 𝓤) (W : Given
   asks-written a w fits-m =
       qed W (‵ (R.the-row .own a (w ∷ [])) ∷ []) ∵ nothing ! $ owned ! usize (Is usize) (uint-makes 𝓤 H A W w64) m _ (refl, fits-m) $ fjoin ! $ move ! (1 ∷ 0 ∷ []) $ fjoin ! $ nothing ! $ join ! $ frame ! $ done !
 
-  written-said : (a : Answer) (k : ℕ) → ent 𝓤 (ensured 𝓤 H A written.ended (written.clauses 𝓤 H A at-mem run) tt (a, (m, tt)) tt k) (fact 𝓤 (k ≡ unless a 0 m))
-  written-said a k = exE 𝓤 _ (λ ws. snd∗ 𝓤 (sem 𝓤 H A (lasts written.ended tt (a, (m, tt)) ws)) (fact 𝓤 (k ≡ unless a 0 m)))
+  written-said : (a : Answer) (k : ℕ) → ent 𝓤 (ensured 𝓤 H A written.ended (written.clauses 𝓤 H A at-mem run) tt (a, (m, tt)) tt k) (fact 𝓤 (k ≡ ifRefused a 0 m))
+  written-said a k = exE 𝓤 _ (λ ws. snd∗ 𝓤 (sem 𝓤 H A (lasts written.ended tt (a, (m, tt)) ws)) (fact 𝓤 (k ≡ ifRefused a 0 m)))
 
   abbrev to-gradient : ℕ → GradientAt 𝓤 H A at-mem run .Ghost
   to-gradient i = ((κs′, qs′, tt, (S, (E, (Q, (I, (rec, (F, (i, tt))))))), (vS ∷ [], (vE ∷ [], (vQ ∷ [], (vI ∷ [], (vint w64 rec ∷ [], (vF ∷ [], (vint w64 i ∷ [], tt)))))))), tt)
@@ -272,7 +272,7 @@ module _ {M : Type 1} (𝓤 : URA M) (H : Heap 𝓤) (A : Atoms 𝓤) (W : Given
     With zs c cells answer = ‵ (row T.the-row fullShare zs b o) ∷ ‵ Own ∷ Tok ∷ ‵ (froom tyPtr l₁₈ 0) ∷ ‵ (froom word l₁₇ 0) ∷ ‵ (froom tyBool l₁₆ 0) ∷ ‵ (froom T′.mir l₁₅ 0) ∷ ‵ c ∷ ‵ cells ∷ ‵ answer ∷ Frame
 
     -- ---- the loop, after the checks answered a, whose machine value is w, and k records are to be written
-    module _ (a : Answer) (w : Val) (isA : Is R.the-row a (w ∷ [])) (checked : Is-checked a) (k : ℕ) (counted : k ≡ unless a 0 m) where
+    module _ (a : Answer) (w : Val) (isA : Is R.the-row a (w ∷ [])) (checked : Is-checked a) (k : ℕ) (counted : k ≡ ifRefused a 0 m) where
       abbrev At : ℕ → List Vec3 → List (Item 𝓤)
       At i zs = With zs (fat fullShare word l₁₄ 0 (vint w64 i)) (fat fullShare word l₁₃ 0 (vint w64 k)) (fat fullShare R′.mir l₁₂ 0 w)
 
@@ -373,7 +373,7 @@ module _ {M : Type 1} (𝓤 : URA M) (H : Heap 𝓤) (A : Atoms 𝓤) (W : Given
         owned ! R.the-row (Is R.the-row) (EL.makes R.the-type R′.the-plain 𝓤 H A) a (w ∷ []) isA $ use1 W (raw (Written 𝓤 H A at-mem run .pre (to-written a w))) (asks-written a w (room .0)) $
         calls-at ! (fmOf 𝓤 H (W .laws) 𝓣) (Written 𝓤 H A at-mem run) known-written (to-written a w) (and-then ! (load ! (from ! (stop !)) (look ! 10 refl)) (and-then ! (load ! (from ! (stop !)) (look ! 11 refl)) (no-more !))) (λ u.
         use1 W (later (some (λ (k : ℕ). (‵ ftrue ⊛ ‵ (usize .own k (u ∷ []))) ⊛ raw (ensured 𝓤 H A written.ended (written.clauses 𝓤 H A at-mem run) tt (a, (m, tt)) tt k)))) (id⊢ 𝓤 _) $ await ! tt $ pick ! (λ k.
-        split ! $ move ! (1 ∷ []) $ use1 W (raw (fact 𝓤 (k ≡ unless a 0 m))) (written-said a k) $ heard ! (k ≡ unless a 0 m) (λ counted. split ! $ drop ! $ facts ! usize (Is usize) (shows 𝓤 H A usize) k (u ∷ []) (λ is.
+        split ! $ move ! (1 ∷ []) $ use1 W (raw (fact 𝓤 (k ≡ ifRefused a 0 m))) (written-said a k) $ heard ! (k ≡ ifRefused a 0 m) (λ counted. split ! $ drop ! $ facts ! usize (Is usize) (shows 𝓤 H A usize) k (u ∷ []) (λ is.
         land ! (from ! (stop !)) (init ! 8 refl (subst (λ (v : Val). Holds (hasTy word v) × WT v) (sym (ap only (is .0))) (tt, record { fits = is .1 }))) $
         rewrite ! 8 (λ (v : Val). ‵ (fat fullShare word l₁₃ 0 v)) (ap only (is .0)) refl $
         assigns ! (of-opd ! (lit ! tt)) (from ! (stop !)) (init ! 7 refl (tt, record { fits = lit< tt })) $ by ! (loops a w isA checked k counted)))))

@@ -3,7 +3,7 @@ use Rattle.simple.proofs.Checked.{metrics-passed}
 use Rattle.corrector.specs.Metrics.{metricsOf, metricsAnswer, metricsNumbers}
 use Rattle.coupling.specs.Grid.{field}
 use Rattle.numerics.specs.Outflow.{outflows}
-use Rattle.mesh.specs.Pass.{handedOut, unless}
+use Rattle.mesh.specs.Pass.{handedOut, ifRefused}
 use Rattle.mesh.specs.Answers.{orElse}
 use denote.Ref.{now}
 use lib.ListN.{length}
@@ -37,7 +37,7 @@ same-length-2 : tie.Need-same-length-2
 same-length-2 c = search needs
 
 returns : tie.Need-returns
-unfolding orElse unless
+unfolding orElse ifRefused
 returns c =
     let s : tie.Start = search in
     let k : tie.After-check-metrics = search in
@@ -52,7 +52,7 @@ returns c =
     }
 
 returns-2 : tie.Need-returns-2
-unfolding orElse unless
+unfolding orElse ifRefused
 returns-2 c =
     let k : tie.After-check-metrics = search in
     let a = sym (k .check-metrics .ensures) ∙ c .before .a .given .1 in

@@ -1,7 +1,7 @@
 -- `simple::correct_cell_velocity_from_gradient` meets its contract: the checks, and after them the work.
 use Rattle.simple.proofs.Checked.{velocity-passed}
 use Rattle.coupling.specs.Grid.{field}
-use Rattle.mesh.specs.Pass.{unless}
+use Rattle.mesh.specs.Pass.{ifRefused}
 use Rattle.mesh.specs.Answers.{orElse}
 use denote.Ref.{now}
 use lib.ListN.{length}
@@ -30,7 +30,7 @@ same-length : tie.Need-same-length
 same-length c = search needs
 
 returns : tie.Need-returns
-unfolding orElse unless
+unfolding orElse ifRefused
 returns c =
     let k : tie.After-check-velocity = search in
     let e : tie.After-enum-told = search in
@@ -39,7 +39,7 @@ returns c =
     (rw a (w .correct-cell-velocity-from-gradient .ensures .0), rw a (w .correct-cell-velocity-from-gradient .ensures .1))
 
 returns-2 : tie.Need-returns-2
-unfolding orElse unless
+unfolding orElse ifRefused
 returns-2 c =
     let k : tie.After-check-velocity = search in
     let a = sym (k .check-velocity .ensures) ∙ c .before .a .given .1 in

@@ -1,7 +1,7 @@
 -- `simple::momentum_inverse_diagonal` meets its contract: the checks, and after them the work.
 use Rattle.simple.proofs.Checked.{diagonal-passed}
 use Rattle.corrector.specs.Diagonal.{inverses}
-use Rattle.mesh.specs.Pass.{handedOut, unless}
+use Rattle.mesh.specs.Pass.{handedOut, ifRefused}
 use Rattle.mesh.specs.Answers.{orElse}
 use denote.Ref.{now}
 use lib.ListN.{length}
@@ -32,7 +32,7 @@ same-length : tie.Need-same-length
 same-length c = search needs
 
 returns : tie.Need-returns
-unfolding orElse unless
+unfolding orElse ifRefused
 returns c =
     let s : tie.Start = search in
     let k : tie.After-check-diagonal = search in
@@ -43,7 +43,7 @@ returns c =
     (rw a (w .momentum-inverse-diagonal .ensures .0), rw a (w .momentum-inverse-diagonal .ensures .1 ∙ ap (λ (n : ℕ). handedOut (w .momentum-inverse-diagonal .result) n (inverses (now (s .args .diagonal)))) (p .0)))
 
 returns-2 : tie.Need-returns-2
-unfolding orElse unless
+unfolding orElse ifRefused
 returns-2 c =
     let k : tie.After-check-diagonal = search in
     let a = sym (k .check-diagonal .ensures) ∙ c .before .a .given .1 in

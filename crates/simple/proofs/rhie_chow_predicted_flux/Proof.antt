@@ -5,7 +5,7 @@ use Rattle.predictor.specs.Prediction.{Flow, flow, Lent, lent, predictionChecks
 use Rattle.coupling.specs.Grid.{Grid, grid, field}
 use Rattle.numerics.specs.Gradient.{gradients}
 use Rattle.numerics.specs.Slices.{Slices, slices}
-use Rattle.mesh.specs.Pass.{handedOut, unless}
+use Rattle.mesh.specs.Pass.{handedOut, ifRefused}
 use Rattle.mesh.specs.Answers.{orElse}
 use denote.Ref.{now}
 use lib.Ieee.{Float}
@@ -73,7 +73,7 @@ same-length-2 : tie.Need-same-length-2
 same-length-2 c = search needs
 
 returns : tie.Need-returns
-unfolding orElse unless
+unfolding orElse ifRefused
 returns c =
     let w : tie.After-rhie-chow-predicted-flux = search in
     let e = toldAt w in
@@ -98,7 +98,7 @@ returns c =
     }
 
 returns-2 : tie.Need-returns-2
-unfolding orElse unless
+unfolding orElse ifRefused
 returns-2 c =
     let k : tie.After-check-prediction = search in
     let a = sym (k .check-prediction .ensures) ∙ c .before .a .given .1 in

@@ -4,7 +4,7 @@ use lib.ListN.{length}
 use denote.Ref.{now}
 use Rattle.mesh.specs.Answers.{orElse}
 use Rattle.mesh.specs.Mesh.{mesh, conditions}
-use Rattle.mesh.specs.Pass.{unless}
+use Rattle.mesh.specs.Pass.{ifRefused}
 use Rattle.numerics.specs.Slices.{lengths}
 use Rattle.stencil.proofs.Good.{passed-checks}
 use borrow.Author.Needs.{needs}
@@ -41,7 +41,7 @@ same-length-4 : tie.Need-same-length-4
 same-length-4 c = search needs
 
 returns : tie.Need-returns
-unfolding orElse unless
+unfolding orElse ifRefused
 returns c =
     let k : tie.After-check-stencil = search in
     let e : tie.After-enum-told = search in
@@ -57,7 +57,7 @@ returns c =
     }
 
 returns-2 : tie.Need-returns-2
-unfolding orElse unless
+unfolding orElse ifRefused
 returns-2 c =
     let k : tie.After-check-stencil = search in
     let g = k .check-stencil .ensures in

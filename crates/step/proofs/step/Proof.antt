@@ -7,7 +7,7 @@ use Rattle.step.specs.Call.{Handed, handed, OutputsFit}
 use Rattle.scheme.specs.Step.{Given, given, Lendable}
 use Rattle.mesh.specs.Answers.{orElse}
 use Rattle.mesh.specs.Mesh.{mesh, conditions}
-use Rattle.mesh.specs.Pass.{unless}
+use Rattle.mesh.specs.Pass.{ifRefused}
 use denote.Ref.{now}
 use mathlib.Core.Path.{_≡_, sym, _∙_}
 use borrow.Author.Needs.{needs}
@@ -86,7 +86,7 @@ same-length-10 : tie.Need-same-length-10
 same-length-10 c = search needs
 
 returns : tie.Need-returns
-unfolding orElse unless
+unfolding orElse ifRefused
 returns c =
     let w : tie.After-carry-out = search in
     let e = toldAt w in
@@ -131,7 +131,7 @@ same-length-20 : tie.Need-same-length-20
 same-length-20 c = search needs
 
 returns-2 : tie.Need-returns-2
-unfolding orElse unless
+unfolding orElse ifRefused
 returns-2 c =
     let x : tie.After-a = search in
     let k : tie.After-check-step = search in

@@ -1,6 +1,6 @@
 -- `step::work::carry_out` meets its contract: the parts, and the clearing after a refusal.
 use Rattle.step.proofs.Outputs.{same-cleared}
-use Rattle.mesh.specs.Pass.{unless}
+use Rattle.mesh.specs.Pass.{ifRefused}
 use Rattle.step.specs.Call.{Handed, handed}
 use denote.Ref.{now}
 use mathlib.Core.Path.{_≡_, sym, _∙_}
@@ -72,7 +72,7 @@ same-length-10 : tie.Need-same-length-10
 same-length-10 c = search needs
 
 returns : tie.Need-returns
-unfolding unless
+unfolding ifRefused
 returns c =
     let r : tie.After-run = search in
     let e : tie.After-enum-told = search in
@@ -109,7 +109,7 @@ same-length-20 : tie.Need-same-length-20
 same-length-20 c = let x : tie.After-clear = search in x .clear .kept .1 .1 .1 .1 .1 .1 .1 .1 .1 .0 ∙ ranAt (knownAt x) .run .kept .1 .1 .1 .1 .1 .1 .1 .1 .1 .1 .1 .1 .1 .1 .1 .1 .1 .1 .1 .1 .1 .1 .1 .1 .0
 
 returns-2 : tie.Need-returns-2
-unfolding unless
+unfolding ifRefused
 returns-2 c =
     let x : tie.After-clear = search in
     let k = knownAt x in

@@ -1,9 +1,11 @@
--- `simple::check_links` meets its contract.
-use Rattle.predictor.specs.Boundary.{links}
-use mathlib.Core.Path.{_∙_}
+-- `mesh::check_links` meets its contract: 4, then 6.
+use Rattle.mesh.specs.Answers.{firstOf}
+use Rattle.mesh.specs.Mesh.{links}
+use Rattle.mesh.proofs.Facts.{or-accepted}
+use mathlib.Core.Path.{sym, _∙_}
 use borrow.Author.Needs.{needs}
-use Rattle.simple.proofs.check_links.Statement.{statement}
-use Rattle.simple.proofs.check_links.Tie as tie
+use Rattle.mesh.proofs.check_links.Statement.{statement}
+use Rattle.mesh.proofs.check_links.Tie as tie
 
 lowest-bad-face-requires : tie.Need-lowest-bad-face-requires
 lowest-bad-face-requires c κs = search needs
@@ -27,7 +29,7 @@ or-else-requires : tie.Need-or-else-requires
 or-else-requires c κs = search needs
 
 returns : tie.Need-returns
-unfolding links
+unfolding links firstOf
 returns c =
     let f : tie.After-lowest-bad-face = search in
     let u : tie.After-lowest-unknown-code = search in
@@ -35,7 +37,7 @@ returns c =
     let a : tie.After-at = search in
     let b : tie.After-lowest-bad-link = search in
     let d : tie.After-at2 = search in
-    c .or-else .ensures ∙ rw (a .at .ensures, d .at2 .ensures, b .lowest-bad-link .ensures, l .lower-of .ensures, f .lowest-bad-face .ensures, u .lowest-unknown-code .ensures)
+    c .or-else .ensures ∙ rw (or-accepted _, a .at .ensures, d .at2 .ensures, b .lowest-bad-link .ensures, l .lower-of .ensures, f .lowest-bad-face .ensures, u .lowest-unknown-code .ensures)
 
 pub check-links-spec : {M : Type 1} → statement M
 check-links-spec =

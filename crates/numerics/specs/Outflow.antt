@@ -5,12 +5,14 @@ use mathlib.Core.Bool.{Bool, _&&_, cond}
 use Prim.Native.Nat.{ℕ, zero, suc, _*_, _-_, _<_}
 use lib.Dec.{eqb}
 use lib.ListN.{length, getD, set, replicate}
-use lib.Ieee.{Float, nan, neg}
+use lib.Ieee.{Float, nan, neg, binary64}
 use Rattle.binary64.specs.Numbers.{zero64, _⊕_, _⊖_}
+use Rattle.binary64.specs.Units.{total}
 use Rattle.mesh.specs.Answers.{pass, at, firstOf}
 use Rattle.mesh.specs.Checks.{sizesOk, lowestBadFace}
 use Rattle.mesh.specs.Facts.{CellsOf}
-use Rattle.chain.specs.Pairs.{firstAt, secondAt}
+use Rattle.mesh.specs.Pass.{ifRefused}
+use Rattle.mesh.specs.Records.{ownerAt, neighbourAt}
 use Rattle.mesh.specs.declared.Answer.{Answer}
 use Rattle.mesh.specs.declared.Answer.the-variants.{Accepted}
 use Rattle.mesh.specs.declared.Counts.{Counts}
@@ -25,7 +27,7 @@ abbrev pub fluxAt : List Float → ℕ → Float
 fluxAt flux f = getD flux f nan
 
 abbrev pub facesOf : List ℕ → List Float → Faces
-facesOf adjacency flux = record { owner = firstAt adjacency; neighbour = secondAt adjacency; flux = fluxAt flux }
+facesOf adjacency flux = record { owner = ownerAt adjacency; neighbour = neighbourAt adjacency; flux = fluxAt flux }
 
 -- ---- the outflows as they are summed, rounded at each step
 
@@ -60,20 +62,16 @@ upTo g zero = []
 upTo g (suc n) = upTo g n ++ g n
 
 -- what the face f gives the cell c: its flux where c is the owner, its flux negated where c is the neighbour
-unfoldable pub given : Faces → ℕ → ℕ → List Float
-given m c f = only (eqb (m .owner f) c) (m .flux f) ++ only (eqb (m .neighbour f) (suc c)) (neg (m .flux f))
+unfoldable pub faceTerms : Faces → ℕ → ℕ → List Float
+faceTerms m c f = only (eqb (m .owner f) c) (m .flux f) ++ only (eqb (m .neighbour f) (suc c)) (neg (m .flux f))
 
 abbrev pub terms : Faces → ℕ → ℕ → List Float
-terms m n c = upTo (given m c) n
+terms m n c = upTo (faceTerms m c) n
 
--- their sum from s, rounded at each step
-unfoldable pub total : Float → List Float → Float
-total s [] = s
-total s (x ∷ xs) = total (s ⊕ x) xs
-
--- the law of the outflow: of each cell it is the sum of that cell's terms, in face order from +0.0
+-- the law of the outflow: of each cell it is the sum of that cell's terms, in face order from +0.0, rounded at each step
 abbrev pub SumsItsTerms : ℕ → List ℕ → List Float → List Float → Type 0
-SumsItsTerms cells adjacency flux outflow = (c : ℕ) → c < cells → getD outflow c nan ≡ total zero64 (terms (facesOf adjacency flux) (length flux) c)
+SumsItsTerms cells adjacency flux outflow =
+    (c : ℕ) → c < cells → getD outflow c nan ≡ total binary64 zero64 (terms (facesOf adjacency flux) (length flux) c)
 
 -- ---- the entry
 
@@ -86,6 +84,11 @@ outflowChecks n adjacency number flux outs =
     ∷ pass 3 (eqb number (n .mesh))
     ∷ at 4 (lowestBadFace (n .cells) adjacency)
     ∷ [])
+
+-- the answer, and what the output holds after the call: untouched where a check refuses
+pub record OutflowCall (n : Counts) (adjacency : List ℕ) (number : ℕ) (flux old : List Float) (r : Answer) (new : List Float) : Type 0 where
+  pub answer : r ≡ outflowChecks n adjacency number flux (length old)
+  pub out : new ≡ ifRefused r old (outflows (n .cells) adjacency flux)
 
 -- what an accepted call leaves
 abbrev pub Scattered : Answer → ℕ → List ℕ → List Float → List Float → Type 0

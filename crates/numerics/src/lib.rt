@@ -1,10 +1,8 @@
 // Operators on a mesh: the gradient from a lent stencil, and the outflow of each cell.
 ghost use mathlib.Core.Path.{_≡_};
-ghost use lib.ListN.{length};
-ghost use Rattle.mesh.specs.Pass.{ifRefused};
-ghost use Rattle.numerics.specs.Slices.{lengths, stencilSized, slices};
-ghost use Rattle.numerics.specs.Gradient.{gradients, lentChecks, gradientChecks};
-ghost use Rattle.numerics.specs.Outflow.{outflows, outflowChecks, Scattered};
+ghost use Rattle.numerics.specs.Slices.{lengths, stencilSized, slicesBefore};
+ghost use Rattle.numerics.specs.Gradient.{lentChecks, GradientCall};
+ghost use Rattle.numerics.specs.Outflow.{outflowChecks, OutflowCall, Scattered};
 use chain::Found;
 use mesh::Answer;
 use mesh::Counts;
@@ -41,9 +39,11 @@ pub fn check_gradient(
     field: &[f64],
     sized: bool,
 ) -> Answer
-    ensures { λ r. ⌜ r ≡ lentChecks counts stencil records (slices (now (starts .entry)) (now (equations .entry)) (now (weights .entry)) (now (inverses .entry))) number (now (field .entry)) sized ⌝ }
+    ensures checked { λ r.
+        let s = slicesBefore starts equations weights inverses in
+        ⌜ r ≡ lentChecks counts stencil records s number (now (field .entry)) sized ⌝ }
 {
-    if !(mesh::sizes_ok(counts) & (records <= 65535)) {
+    if !(mesh::sizes_ok(counts) & (records <= mesh::LARGEST_COUNT)) {
         return Answer::Refused(1, 0);
     }
     if !(stencil_sized(
@@ -82,8 +82,9 @@ pub fn least_squares_gradient(
     field: &[f64],
     out: &mut [f64],
 ) -> Answer
-    ensures { λ r. ⌜ r ≡ gradientChecks counts stencil records (slices (now (starts .entry)) (now (equations .entry)) (now (weights .entry)) (now (inverses .entry))) number (now (field .entry)) (length (now (out .entry))) ⌝ }
-    ensures { λ r. ⌜ now (out .exit) ≡ ifRefused r (now (out .entry)) (gradients (slices (now (starts .entry)) (now (equations .entry)) (now (weights .entry)) (now (inverses .entry))) records (now (field .entry)) (counts .cells)) ⌝ }
+    ensures call { λ r.
+        let s = slicesBefore starts equations weights inverses in
+        ⌜ GradientCall counts stencil records s number (now (field .entry)) (now (out .entry)) r (now (out .exit)) ⌝ }
 {
     let a = check_gradient(
         counts,
@@ -144,9 +145,9 @@ pub fn integrated_divergence(
     flux: &[f64],
     out: &mut [f64],
 ) -> Answer
-    ensures { λ r. ⌜ r ≡ outflowChecks counts (now (adjacency .entry)) number (now (flux .entry)) (length (now (out .entry))) ⌝ }
-    ensures { λ r. ⌜ now (out .exit) ≡ ifRefused r (now (out .entry)) (outflows (counts .cells) (now (adjacency .entry)) (now (flux .entry))) ⌝ }
-    ensures { λ r. ⌜ Scattered r (counts .cells) (now (adjacency .entry)) (now (flux .entry)) (now (out .exit)) ⌝ }
+    ensures call { λ r.
+        ⌜ OutflowCall counts (now (adjacency .entry)) number (now (flux .entry)) (now (out .entry)) r (now (out .exit)) ⌝ }
+    ensures terms { λ r. ⌜ Scattered r (counts .cells) (now (adjacency .entry)) (now (flux .entry)) (now (out .exit)) ⌝ }
 {
     let a = check_flux(counts, adjacency, number, flux, out.len());
     match a {

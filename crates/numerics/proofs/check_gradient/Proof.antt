@@ -8,6 +8,7 @@ use denote.Ref.{now}
 use borrow.Author.Tests.{not-true, not-false}
 use Rattle.mesh.specs.Answers.{pass, at, orElse, firstOf}
 use Rattle.chain.proofs.Truth.{and-true}
+use Rattle.mesh.specs.Checks.{largestCount}
 use Rattle.mesh.proofs.Facts.{small}
 use Rattle.numerics.specs.Gradient.{lentChecks}
 use borrow.Author.Needs.{needs}
@@ -35,7 +36,7 @@ unfolding lentChecks firstOf orElse pass at
 returns c =
     let s : tie.Start = search in
     let z : tie.After-sizes-ok = search in
-    rw (← z .sizes-ok .ensures, not-true (z .sizes-ok .result && leb (s .args .records) 65535) (c .if1 .taken))
+    rw (← z .sizes-ok .ensures, not-true (z .sizes-ok .result && leb (s .args .records) largestCount) (c .if1 .taken))
 
 stencil-sized-requires : tie.Need-stencil-sized-requires
 stencil-sized-requires c κs = search needs
@@ -47,7 +48,7 @@ returns-2 c =
     let z : tie.After-sizes-ok = search in
     let t : tie.After-stencil-sized = search in
     let e : tie.Else1 = search in
-    rw (← z .sizes-ok .ensures, not-false (z .sizes-ok .result && leb (s .args .records) 65535) (e .if1 .left), ← t .stencil-sized .ensures, not-true (t .stencil-sized .result && eqb (length (now (s .args .field))) (s .args .counts .cells) && s .args .sized) (c .if2 .taken))
+    rw (← z .sizes-ok .ensures, not-false (z .sizes-ok .result && leb (s .args .records) largestCount) (e .if1 .left), ← t .stencil-sized .ensures, not-true (t .stencil-sized .result && eqb (length (now (s .args .field))) (s .args .counts .cells) && s .args .sized) (c .if2 .taken))
 
 returns-3 : tie.Need-returns-3
 unfolding lentChecks firstOf orElse pass at
@@ -57,7 +58,7 @@ returns-3 c =
     let t : tie.After-stencil-sized = search in
     let e : tie.Else1 = search in
     let d : tie.Else2 = search in
-    rw (← z .sizes-ok .ensures, not-false (z .sizes-ok .result && leb (s .args .records) 65535) (e .if1 .left), ← t .stencil-sized .ensures, not-false (t .stencil-sized .result && eqb (length (now (s .args .field))) (s .args .counts .cells) && s .args .sized) (d .if2 .left), not-true (eqb (s .args .stencil) (s .args .counts .mesh) && eqb (s .args .number) (s .args .counts .mesh)) (c .if3 .taken))
+    rw (← z .sizes-ok .ensures, not-false (z .sizes-ok .result && leb (s .args .records) largestCount) (e .if1 .left), ← t .stencil-sized .ensures, not-false (t .stencil-sized .result && eqb (length (now (s .args .field))) (s .args .counts .cells) && s .args .sized) (d .if2 .left), not-true (eqb (s .args .stencil) (s .args .counts .mesh) && eqb (s .args .number) (s .args .counts .mesh)) (c .if3 .taken))
 
 add-lowest-broken-equation : tie.Need-add-lowest-broken-equation
 add-lowest-broken-equation c =
@@ -65,7 +66,7 @@ add-lowest-broken-equation c =
     let s = startAt d in
     let z = countedAt d in
     let e = firstAt d in
-    let few = small (s .args .counts) (sym (z .sizes-ok .ensures) ∙ and-true (z .sizes-ok .result) (leb (s .args .records) 65535) (not-false (z .sizes-ok .result && leb (s .args .records) 65535) (e .if1 .left)) .0) in
+    let few = small (s .args .counts) (sym (z .sizes-ok .ensures) ∙ and-true (z .sizes-ok .result) (leb (s .args .records) largestCount) (not-false (z .sizes-ok .result && leb (s .args .records) largestCount) (e .if1 .left)) .0) in
     omega (arith, few .cells)
 
 lowest-broken-equation-requires : tie.Need-lowest-broken-equation-requires
@@ -84,7 +85,7 @@ returns-4 c =
     let e = firstAt d in
     let t = sizedAt d in
     let b : tie.After-lowest-broken-equation = search in
-    rw (← z .sizes-ok .ensures, not-false (z .sizes-ok .result && leb (s .args .records) 65535) (e .if1 .left), ← t .stencil-sized .ensures, not-false (t .stencil-sized .result && eqb (length (now (s .args .field))) (s .args .counts .cells) && s .args .sized) (d .if2 .left), not-false (eqb (s .args .stencil) (s .args .counts .mesh) && eqb (s .args .number) (s .args .counts .mesh)) (h .if3 .left), ← b .lowest-broken-equation .ensures, c .before .cell .given .1)
+    rw (← z .sizes-ok .ensures, not-false (z .sizes-ok .result && leb (s .args .records) largestCount) (e .if1 .left), ← t .stencil-sized .ensures, not-false (t .stencil-sized .result && eqb (length (now (s .args .field))) (s .args .counts .cells) && s .args .sized) (d .if2 .left), not-false (eqb (s .args .stencil) (s .args .counts .mesh) && eqb (s .args .number) (s .args .counts .mesh)) (h .if3 .left), ← b .lowest-broken-equation .ensures, c .before .cell .given .1)
 
 enum-told : tie.Need-enum-told
 enum-told c = search needs
@@ -99,7 +100,7 @@ returns-5 c =
     let e = firstAt d in
     let t = sizedAt d in
     let b : tie.After-lowest-broken-equation = search in
-    rw (← z .sizes-ok .ensures, not-false (z .sizes-ok .result && leb (s .args .records) 65535) (e .if1 .left), ← t .stencil-sized .ensures, not-false (t .stencil-sized .result && eqb (length (now (s .args .field))) (s .args .counts .cells) && s .args .sized) (d .if2 .left), not-false (eqb (s .args .stencil) (s .args .counts .mesh) && eqb (s .args .number) (s .args .counts .mesh)) (h .if3 .left), ← b .lowest-broken-equation .ensures, c .enum-told .given .1)
+    rw (← z .sizes-ok .ensures, not-false (z .sizes-ok .result && leb (s .args .records) largestCount) (e .if1 .left), ← t .stencil-sized .ensures, not-false (t .stencil-sized .result && eqb (length (now (s .args .field))) (s .args .counts .cells) && s .args .sized) (d .if2 .left), not-false (eqb (s .args .stencil) (s .args .counts .mesh) && eqb (s .args .number) (s .args .counts .mesh)) (h .if3 .left), ← b .lowest-broken-equation .ensures, c .enum-told .given .1)
 
 pub check-gradient-spec : {M : Type 1} → statement M
 check-gradient-spec =

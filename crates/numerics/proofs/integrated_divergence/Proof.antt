@@ -43,13 +43,13 @@ returns c =
     let a = sym (e .enum-told .given .1) ∙ k .check-flux .ensures in
     let o = flows (s .args .counts) (now (s .args .adjacency)) (s .args .number) (now (s .args .flux)) (length (now (s .args .out))) (sym a) .1 in
     let left = w .integrated-divergence .ensures ∙ ap (λ (n : ℕ). outflows n (now (s .args .adjacency)) (now (s .args .flux))) o in (
-      a,
-      (left, λ _ i h. ap (λ (l : List Float). getD l i nan) left ∙ sums-its-terms (s .args .counts .cells) (now (s .args .adjacency)) (now (s .args .flux)) i h),
+      record { answer = a; out = left },
+      λ _ i h. ap (λ (l : List Float). getD l i nan) left ∙ sums-its-terms (s .args .counts .cells) (now (s .args .adjacency)) (now (s .args .flux)) i h,
     )
 
 returns-2 : tie.Need-returns-2
 unfolding ifRefused
-returns-2 c = let k : tie.After-check-flux = search in (sym (c .before .a .given .1) ∙ k .check-flux .ensures, (refl, λ e i h. cc))
+returns-2 c = let k : tie.After-check-flux = search in (record { answer = sym (c .before .a .given .1) ∙ k .check-flux .ensures; out = refl }, λ e i h. cc)
 
 pub integrated-divergence-spec : {M : Type 1} → statement M
 integrated-divergence-spec =

@@ -55,11 +55,11 @@ returns c =
     let w : tie.After-least-squares-gradient = search in
     let a = sym (e .enum-told .given .1) ∙ checked k in
     let o = slopes (s .args .counts) (s .args .stencil) (s .args .records) (slices (now (s .args .starts)) (now (s .args .equations)) (now (s .args .weights)) (now (s .args .inverses))) (s .args .number) (now (s .args .field)) (length (now (s .args .out))) (sym a) .1 in
-    (a, w .least-squares-gradient .ensures ∙ ap (λ (n : ℕ). gradients (slices (now (s .args .starts)) (now (s .args .equations)) (now (s .args .weights)) (now (s .args .inverses))) (s .args .records) (now (s .args .field)) n) o)
+    record { answer = a; out = w .least-squares-gradient .ensures ∙ ap (λ (n : ℕ). gradients (slices (now (s .args .starts)) (now (s .args .equations)) (now (s .args .weights)) (now (s .args .inverses))) (s .args .records) (now (s .args .field)) n) o }
 
 returns-2 : tie.Need-returns-2
 unfolding ifRefused
-returns-2 c = let k : tie.After-check-gradient = search in (sym (c .before .a .given .1) ∙ checked k, refl)
+returns-2 c = let k : tie.After-check-gradient = search in record { answer = sym (c .before .a .given .1) ∙ checked k; out = refl }
 
 pub least-squares-gradient-spec : {M : Type 1} → statement M
 least-squares-gradient-spec =

@@ -3,7 +3,7 @@ ghost use mathlib.Core.Path.{_≡_};
 ghost use Prim.Native.Nat.{_+_, _*_, _-_, _<_};
 ghost use lib.ListN.{length, getD};
 ghost use lib.Ieee.{nan};
-ghost use Rattle.numerics.specs.Slices.{slices};
+ghost use Rattle.numerics.specs.Slices.{slices, slicesBefore};
 ghost use Rattle.numerics.specs.Gradient.{Sloped, sourceValue, addTerm, rightSide, product, gradientAt, gradients};
 use vector::Vec3;
 
@@ -31,7 +31,9 @@ fn add_term(
 ) -> Vec3
     requires { ⌜ Sloped (slices (now starts) (now equations) (now weights) (now inverses)) records (now field) ⌝ }
     requires { ⌜ (0 < r) × (2 * r < length (now equations) + 1) × (getD (now equations) (2 * (r - 1)) 0 < length (now field) + 2) ⌝ }
-    ensures { λ v. ⌜ v ≡ addTerm (slices (now (starts .entry)) (now (equations .entry)) (now (weights .entry)) (now (inverses .entry))) (now (field .entry)) own r right ⌝ }
+    ensures sums { λ v.
+        let s = slicesBefore starts equations weights inverses in
+        ⌜ v ≡ addTerm s (now (field .entry)) own r right ⌝ }
 {
     let b = 4 * (r - 1);
     let source = chain::inner::first_of(equations, r - 1);
@@ -52,7 +54,9 @@ fn right_side(
 ) -> Vec3
     requires { ⌜ Sloped (slices (now starts) (now equations) (now weights) (now inverses)) records (now field) ⌝ }
     requires { ⌜ c < length (now field) ⌝ }
-    ensures { λ v. ⌜ v ≡ rightSide (slices (now (starts .entry)) (now (equations .entry)) (now (weights .entry)) (now (inverses .entry))) records (now (field .entry)) c ⌝ }
+    ensures sums { λ v.
+        let s = slicesBefore starts equations weights inverses in
+        ⌜ v ≡ rightSide s records (now (field .entry)) c ⌝ }
 {
     let own = field[c];
     let mut right = Vec3 {
@@ -120,7 +124,9 @@ pub fn gradient_at(
     c: usize,
 ) -> Vec3
     requires { ⌜ Sloped (slices (now starts) (now equations) (now weights) (now inverses)) records (now field) × (c < length (now field)) ⌝ }
-    ensures { λ v. ⌜ v ≡ gradientAt (slices (now (starts .entry)) (now (equations .entry)) (now (weights .entry)) (now (inverses .entry))) records (now (field .entry)) c ⌝ }
+    ensures sums { λ v.
+        let s = slicesBefore starts equations weights inverses in
+        ⌜ v ≡ gradientAt s records (now (field .entry)) c ⌝ }
 {
     let right = right_side(starts, equations, weights, inverses, records, field, c);
     times_inverse(inverses, c, right)
@@ -138,7 +144,9 @@ pub fn least_squares_gradient(
 )
     requires { ⌜ Sloped (slices (now starts) (now equations) (now weights) (now inverses)) records (now field) ⌝ }
     requires { ⌜ length (now out) ≡ 3 * length (now field) ⌝ }
-    ensures { λ _. ⌜ now (out .exit) ≡ gradients (slices (now (starts .entry)) (now (equations .entry)) (now (weights .entry)) (now (inverses .entry))) records (now (field .entry)) (length (now (field .entry))) ⌝ }
+    ensures sums { λ _.
+        let s = slicesBefore starts equations weights inverses in
+        ⌜ now (out .exit) ≡ gradients s records (now (field .entry)) (length (now (field .entry))) ⌝ }
 {
     let mut c = 0;
     while c < field.len() {

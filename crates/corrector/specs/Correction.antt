@@ -8,8 +8,7 @@ use lib.ListN.{length, getD}
 use lib.Ieee.{Float, nan}
 use Rattle.mesh.specs.Facts.{CellsOf}
 use Rattle.mesh.specs.Pass.{firstRefusal, valuesOf}
-use Rattle.chain.specs.Pairs.{firstAt, secondAt}
-use Rattle.mesh.specs.Records.{conditionAt}
+use Rattle.mesh.specs.Records.{ownerAt, neighbourAt, peerAt, conditionAt}
 use Rattle.mesh.specs.declared.Answer.{Answer}
 use Rattle.mesh.specs.declared.Condition.{Condition}
 use Rattle.mesh.specs.declared.Condition.the-variants.{Absent, Fixed, ZeroGradient}
@@ -40,12 +39,15 @@ unfoldable pub correctedFluxAt : Correcting → ℕ → Outcome
 correctedFluxAt m f =
     let p = getD (m .predicted) f nan in
     let k = getD (m .coefficients) f nan in
-    let own = getD (m .correction) (firstAt (m .adjacency) f) nan in
-    cond (eqb (secondAt (m .adjacency) f) 0)
-    (cond (eqb (secondAt (m .codes) f) 0)
+    let neighbour = neighbourAt (m .adjacency) f in
+    let peer = peerAt (m .codes) f in
+    let correctionIn : ℕ → Float = λ c. getD (m .correction) c nan in
+    let own = correctionIn (ownerAt (m .adjacency) f) in
+    cond (eqb neighbour 0)
+    (cond (eqb peer 0)
     (wallFlux (conditionAt (m .codes) (m .values) f) p k own)
-    (correctedFlux p k (getD (m .correction) (firstAt (m .adjacency) (secondAt (m .codes) f - 1)) nan) own))
-    (correctedFlux p k (getD (m .correction) (secondAt (m .adjacency) f - 1) nan) own)
+    (correctedFlux p k (correctionIn (ownerAt (m .adjacency) (peer - 1))) own))
+    (correctedFlux p k (correctionIn (neighbour - 1)) own)
 
 abbrev pub correctionAnswer : Correcting → Answer
 correctionAnswer m = firstRefusal (correctedFluxAt m) (length (m .predicted))
@@ -60,5 +62,5 @@ pub record Correctable (m : Correcting) : Type 0 where
   pub values : length (m .values) ≡ 4 * length (m .predicted)
   pub coefficients : length (m .coefficients) ≡ length (m .predicted)
   pub sides : (f : ℕ) → f < length (m .predicted) → CellsOf (length (m .correction)) (m .adjacency) f
-  pub peers : (f : ℕ) → f < length (m .predicted) → secondAt (m .codes) f ≤ length (m .predicted)
-  pub links : (f : ℕ) → f < length (m .predicted) → (secondAt (m .codes) f ≡ 0 → ⊥) → secondAt (m .adjacency) f ≡ 0
+  pub peers : (f : ℕ) → f < length (m .predicted) → peerAt (m .codes) f ≤ length (m .predicted)
+  pub links : (f : ℕ) → f < length (m .predicted) → (peerAt (m .codes) f ≡ 0 → ⊥) → neighbourAt (m .adjacency) f ≡ 0

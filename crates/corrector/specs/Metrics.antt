@@ -2,16 +2,17 @@
 use mathlib.Core.Path.{_≡_}
 use mathlib.Core.List.{List, [], _∷_}
 use mathlib.Core.Bool.{Bool, cond}
-use Prim.Native.Nat.{ℕ, zero, suc, _+_, _*_}
+use Prim.Native.Nat.{ℕ, zero, suc, _*_}
 use lib.Dec.{eqb}
 use lib.IntN.{pos}
 use lib.ListN.{length, getD, replicate}
 use lib.Ieee.{Float, nan, binary64, ofInt}
 use Rattle.binary64.specs.Numbers.{zero64, isFinite, larger, _⊕_, _⊗_, _⊘_}
 use Rattle.binary64.specs.Root.{root}
-use Rattle.mesh.specs.Answers.{at, orElse, shape}
+use Rattle.mesh.specs.Answers.{pass, at, firstOf, orElse}
 use Rattle.mesh.specs.Checks.{sizesOk, lowestBadFace}
 use Rattle.mesh.specs.Pass.{firstRefusal, valueOf, handedOut, ifRefused}
+use Rattle.mesh.specs.Records.{volumeAt}
 use Rattle.chain.specs.Search.{everyOf}
 use Rattle.mesh.specs.declared.Answer.{Answer}
 use Rattle.mesh.specs.declared.Answer.the-variants.{Accepted, Refused}
@@ -32,7 +33,7 @@ unfoldable pub rootMeanSquare : List Float → Float
 rootMeanSquare outflow = root (squaredSum outflow (length outflow) ⊘ ofInt binary64 (pos (length outflow)))
 
 unfoldable pub divergenceAt : List Float → List Float → ℕ → Outcome
-divergenceAt places outflow c = divergence (getD outflow c nan) (getD places (4 * c + 3) nan)
+divergenceAt places outflow c = divergence (getD outflow c nan) (volumeAt places c)
 
 -- the largest of +0.0 and the divergences of the cells below n
 unfoldable pub largest : (ℕ → Outcome) → ℕ → Float
@@ -67,16 +68,24 @@ metricsNumbers (Unmeasured k i) = replicate 2 zero64
 -- ---- the entry
 
 -- 2 of what it is lent; the outputs have so many numbers
-abbrev pub metricsSizes : Counts → List Float → Field → ℕ → ℕ → List Bool
-metricsSizes n places flux outs two =
-    eqb (length places) (4 * (n .cells)) ∷ eqb (length (flux .values)) (n .faces) ∷ eqb outs (n .cells) ∷ eqb two 2 ∷ []
+abbrev pub metricsSizes : Counts → List ℕ → List Float → Field → ℕ → ℕ → List Bool
+metricsSizes n adjacency places flux outs two =
+    eqb (length adjacency) (2 * (n .faces))
+    ∷ eqb (length places) (4 * (n .cells))
+    ∷ eqb (length (flux .values)) (n .faces)
+    ∷ eqb outs (n .cells)
+    ∷ eqb two 2
+    ∷ []
 
 -- 1 to 4
 unfoldable pub metricsChecks : Counts → List ℕ → List Float → Field → ℕ → ℕ → Answer
 metricsChecks n adjacency places flux outs two =
-    orElse
-    (shape (sizesOk n) (everyOf (eqb (length adjacency) (2 * (n .faces))) (metricsSizes n places flux outs two)) (eqb (flux .number) (n .mesh)))
-    (at 4 (lowestBadFace (n .cells) adjacency))
+    firstOf
+    (pass 1 (sizesOk n)
+    ∷ pass 2 (everyOf (metricsSizes n adjacency places flux outs two))
+    ∷ pass 3 (eqb (flux .number) (n .mesh))
+    ∷ at 4 (lowestBadFace (n .cells) adjacency)
+    ∷ [])
 
 -- the answer, and what the two outputs hold after the call: untouched where a check refuses, +0.0 where arithmetic does
 pub record MetricsCall (n : Counts) (adjacency : List ℕ) (places : List Float) (flux : Field) (oldOutflow oldMetrics : List Float) (r : Answer) (outflow metrics : List Float) : Type 0 where

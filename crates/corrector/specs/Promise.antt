@@ -5,7 +5,7 @@ use Prim.Native.Nat.{ℕ, suc, _<_}
 use lib.ListN.{length, getD}
 use lib.Ieee.{Float, nan}
 use Rattle.binary64.specs.Units.{Opposite}
-use Rattle.chain.specs.Pairs.{firstAt, secondAt}
+use Rattle.mesh.specs.Records.{neighbourAt, codeAt, peerAt}
 use Rattle.corrector.specs.Correction.{Correcting}
 
 -- what the promise reads: how many faces there are, and of the face f its neighbour + 1, its peer + 1, its condition's code, its given flux and its coefficient
@@ -43,9 +43,9 @@ pub record Promise (t : Boundary) (fluxes : List Float) : Type 0 where
 abbrev pub boundaryOf : Correcting → Boundary
 boundaryOf m = record {
   faces = length (m .predicted);
-  neighbour = secondAt (m .adjacency);
-  peer = secondAt (m .codes);
-  code = firstAt (m .codes);
+  neighbour = neighbourAt (m .adjacency);
+  peer = peerAt (m .codes);
+  code = codeAt (m .codes);
   given = λ f. getD (m .predicted) f nan;
   coefficient = λ f. getD (m .coefficients) f nan;
 }

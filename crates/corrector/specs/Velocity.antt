@@ -1,12 +1,14 @@
 -- The corrected velocity of every cell. Definitions only.
+use mathlib.Core.Path.{_≡_}
 use mathlib.Core.List.{List, [], _∷_}
 use mathlib.Core.Bool.{Bool, not, _&&_}
 use Prim.Native.Nat.{ℕ, _*_}
 use lib.Dec.{eqb}
 use lib.ListN.{length, getD}
 use lib.Ieee.{Float, nan}
-use Rattle.mesh.specs.Answers.{at, shape}
+use Rattle.mesh.specs.Answers.{pass, at, firstOf, orElse}
 use Rattle.mesh.specs.Checks.{sizesOk}
+use Rattle.mesh.specs.Pass.{handedOut, ifRefused}
 use Rattle.vector.specs.Vector.{vectorsOf, vectorAt}
 use Rattle.chain.specs.Search.{everyOf, lowestWhere}
 use Rattle.mesh.specs.declared.Answer.{Answer}
@@ -29,13 +31,26 @@ abbrev pub correctedVelocities : List Float → List Float → List Float → Li
 correctedVelocities velocity responses gradient = vectorsOf (correctedAt velocity responses gradient) (length responses)
 
 -- 2 of the fields and of the output, which has so many numbers
-abbrev pub velocitySizes : Counts → Field → Field → ℕ → List Bool
-velocitySizes n responses gradient outs =
-    eqb (length (responses .values)) (n .cells) ∷ eqb (length (gradient .values)) (3 * (n .cells)) ∷ eqb outs (3 * (n .cells)) ∷ []
+abbrev pub velocitySizes : Counts → Field → Field → Field → ℕ → List Bool
+velocitySizes n velocity responses gradient outs =
+    eqb (length (velocity .values)) (3 * (n .cells))
+    ∷ eqb (length (responses .values)) (n .cells)
+    ∷ eqb (length (gradient .values)) (3 * (n .cells))
+    ∷ eqb outs (3 * (n .cells))
+    ∷ []
 
 -- 1, 2 and 3 of what it is lent
 unfoldable pub velocityChecks : Counts → Field → Field → Field → ℕ → Answer
 velocityChecks n velocity responses gradient outs =
-    shape (sizesOk n)
-    (everyOf (eqb (length (velocity .values)) (3 * (n .cells))) (velocitySizes n responses gradient outs))
-    (eqb (velocity .number) (n .mesh) && eqb (responses .number) (n .mesh) && eqb (gradient .number) (n .mesh))
+    firstOf
+    (pass 1 (sizesOk n)
+    ∷ pass 2 (everyOf (velocitySizes n velocity responses gradient outs))
+    ∷ pass 3 (eqb (velocity .number) (n .mesh) && eqb (responses .number) (n .mesh) && eqb (gradient .number) (n .mesh))
+    ∷ [])
+
+-- the answer, and what the output holds after the call: untouched where a check refuses, +0.0 where arithmetic does
+pub record VelocityCall (n : Counts) (velocity responses gradient : Field) (old : List Float) (r : Answer) (new : List Float) : Type 0 where
+  pub answer :
+      r ≡ orElse (velocityChecks n velocity responses gradient (length old)) (velocityAnswer (velocity .values) (responses .values) (gradient .values))
+  pub out :
+      new ≡ ifRefused (velocityChecks n velocity responses gradient (length old)) old (handedOut r (length old) (correctedVelocities (velocity .values) (responses .values) (gradient .values)))

@@ -4,7 +4,7 @@ use Prim.Native.Nat.{ℕ}
 use lib.Ieee.{Float}
 use denote.Ref.{RefT, now}
 use denote.Triple.Both.{Both}
-use Rattle.mesh.specs.Mesh.{Mesh, mesh, Conditions, conditions}
+use Rattle.mesh.specs.Mesh.{Mesh, mesh, Bounds, bounds, Conditions, conditions}
 use Rattle.mesh.specs.declared.Counts.{Counts}
 
 abbrev pub Slice : Type 0 → Type 0
@@ -16,3 +16,6 @@ meshLent n a g h p f b = mesh n (now (a .entry)) (now (g .entry)) (now (h .entry
 
 abbrev pub conditionsLent : ℕ → Slice ℕ → Slice Float → Conditions
 conditionsLent n c v = conditions n (now (c .entry)) (now (v .entry))
+
+abbrev pub boundsLent : Slice ℕ → Slice Float → Bounds
+boundsLent c v = bounds (now (c .entry)) (now (v .entry))

@@ -7,7 +7,8 @@ use Rattle.chain.specs.Pairs.{firstAt, secondAt}
 use Rattle.mesh.specs.Records.{faceAt, linkAt}
 use Rattle.mesh.specs.declared.Face.{Face}
 use Rattle.mesh.specs.declared.Link.{Link}
-use Rattle.predictor.specs.Boundary.{Bounds, Bounded}
+use Rattle.mesh.specs.Mesh.{Bounds}
+use Rattle.predictor.specs.Boundary.{Bounded}
 use Rattle.coupling.specs.Grid.{Grid, Coupled}
 
 module _ (m : Grid) (cells faces f : ℕ) (g : Coupled m cells faces) (l : f < faces) where

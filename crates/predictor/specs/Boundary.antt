@@ -1,19 +1,17 @@
 -- The coefficients of all faces: those with two cells first, then linked and fixed-value faces, in face order. Definitions only.
 use mathlib.Core.Path.{_≡_}
-use mathlib.Core.List.{List}
+use mathlib.Core.List.{List, [], _∷_}
 use mathlib.Core.Bool.{_&&_, cond}
 use Prim.Native.Nat.{ℕ, _-_, _*_, _<_, _≤_}
 use lib.Dec.{eqb}
 use lib.ListN.{length, getD}
 use lib.Ieee.{Float, nan}
 use Rattle.binary64.specs.Numbers.{zero64}
-use Rattle.mesh.specs.Answers.{at, orElse, shape}
-use Rattle.mesh.specs.Checks.{sizesOk, lowestBadFace, lowestUnknownCode, lowestBadLink}
-use Rattle.mesh.specs.Mesh.{Conditions, conditionsSized}
+use Rattle.mesh.specs.Answers.{pass, firstOf, orElse}
+use Rattle.mesh.specs.Checks.{sizesOk}
+use Rattle.mesh.specs.Mesh.{Bounds, Conditions, boundsOf, conditionsSized, links}
 use Rattle.mesh.specs.Pass.{valuesOf, handedOut, ifRefused}
-use Rattle.chain.specs.Pairs.{secondAt}
-use Rattle.mesh.specs.Records.{conditionAt, linkAt}
-use Rattle.chain.specs.Search.{lower}
+use Rattle.mesh.specs.Records.{neighbourAt, peerAt, faceCentre, faceArea, centre, translationAt, conditionAt}
 use Rattle.vector.specs.Vector.{difference}
 use Rattle.mesh.specs.declared.Answer.{Answer}
 use Rattle.mesh.specs.declared.Answer.the-variants.{Accepted}
@@ -24,38 +22,32 @@ use Rattle.mesh.specs.declared.Outcome.{Outcome}
 use Rattle.mesh.specs.declared.Outcome.the-variants.{Value}
 use Rattle.coupling.specs.Face.{linkedCoefficient, fixedCoefficient}
 use Rattle.predictor.specs.Coefficients.{internalAt, coefficientAnswer, coefficients}
-use Rattle.coupling.specs.Grid.{Grid, Field, ownerOf, behindOf, faceCentre, faceArea, centre, spanTo, pairAt, gridSized}
+use Rattle.coupling.specs.Grid.{Grid, Field, ownCell, spanTo, pairAt, gridSized}
 use Rattle.passes.specs.Staged.{twoRefusals}
-
--- the conditions and links of the faces
-pub record Bounds : Type 0 where
-  pub codes : List ℕ
-  pub values : List Float
-
-abbrev pub bounds : List ℕ → List Float → Bounds
-bounds c v = record { codes = c; values = v }
 
 -- at a face without a link a fixed value has a coefficient; a zero gradient, and an absent condition, have none
 unfoldable pub byCondition : Grid → List Float → ℕ → Condition → Outcome
 byCondition m responses f (Fixed v) =
-    fixedCoefficient (faceArea m f) (difference (faceCentre m f) (centre m (ownerOf m f))) (getD responses (ownerOf m f) nan)
+    let away = difference (faceCentre (m .geometry) f) (centre (m .places) (ownCell m f)) in
+    fixedCoefficient (faceArea (m .geometry) f) away (getD responses (ownCell m f) nan)
 byCondition m responses f ZeroGradient = Value zero64
 byCondition m responses f Absent = Value zero64
 
 -- the other cell of a linked face is the peer's owner, seen from this side
 unfoldable pub linkedAt : Grid → Bounds → List Float → ℕ → Outcome
 linkedAt m k responses f =
-    let n = ownerOf m (secondAt (k .codes) f - 1) in
-    linkedCoefficient (spanTo m f (difference (centre m n) (linkAt (k .codes) (k .values) f .translation))) (pairAt m responses f n)
+    let n = ownCell m (peerAt (k .codes) f - 1) in
+    let image = difference (centre (m .places) n) (translationAt (k .values) f) in
+    linkedCoefficient (spanTo m f image) (pairAt m responses f n)
 
 -- a face with one cell: its link is looked at before its condition
 unfoldable pub boundaryAt : Grid → Bounds → List Float → ℕ → Outcome
 boundaryAt m k responses f =
-    cond (eqb (secondAt (k .codes) f) 0) (byCondition m responses f (conditionAt (k .codes) (k .values) f)) (linkedAt m k responses f)
+    cond (eqb (peerAt (k .codes) f) 0) (byCondition m responses f (conditionAt (k .codes) (k .values) f)) (linkedAt m k responses f)
 
 -- any face
 unfoldable pub coefficientAt : Grid → Bounds → List Float → ℕ → Outcome
-coefficientAt m k responses f = cond (eqb (behindOf m f) 0) (boundaryAt m k responses f) (internalAt m responses f)
+coefficientAt m k responses f = cond (eqb (neighbourAt (m .adjacency) f) 0) (boundaryAt m k responses f) (internalAt m responses f)
 
 abbrev pub boundaryAnswer : Grid → Bounds → List Float → ℕ → Answer
 boundaryAnswer m k responses faces = twoRefusals (internalAt m responses) (coefficientAt m k responses) faces
@@ -69,21 +61,15 @@ Begun m responses l = (coefficientAnswer m responses (length l) ≡ Accepted) ×
 
 -- ---- the entry
 
-abbrev pub boundsOf : Conditions → Bounds
-boundsOf k = bounds (k .codes) (k .values)
-
--- 4 and 6: the lowest bad face, then the lowest badly linked one
-unfoldable pub links : ℕ → List ℕ → List ℕ → Answer
-links cells adjacency codes = orElse (at 4 (lower (lowestBadFace cells adjacency) (lowestUnknownCode codes))) (at 6 (lowestBadLink adjacency codes))
-
 -- 1 to 4, and 6, of what it is lent; `outs` is the length of the output
 unfoldable pub boundaryChecks : Counts → Grid → Conditions → Field → ℕ → Answer
 boundaryChecks n m k responses outs =
-    orElse
-    (shape (sizesOk n)
-    (gridSized n m && conditionsSized (n .faces) (k .codes) (k .values) && eqb (length (responses .values)) (n .cells) && eqb outs (n .faces))
-    (eqb (k .number) (n .mesh) && eqb (responses .number) (n .mesh)))
-    (links (n .cells) (m .adjacency) (k .codes))
+    firstOf
+    (pass 1 (sizesOk n)
+    ∷ pass 2 (gridSized n m && conditionsSized (n .faces) (k .codes) (k .values) && eqb (length (responses .values)) (n .cells) && eqb outs (n .faces))
+    ∷ pass 3 (eqb (k .number) (n .mesh) && eqb (responses .number) (n .mesh))
+    ∷ links (n .cells) (m .adjacency) (k .codes)
+    ∷ [])
 
 -- the answer, and what the output holds after the call: untouched where a check refuses, +0.0 where arithmetic does
 pub record BoundaryCall (n : Counts) (m : Grid) (k : Conditions) (responses : Field) (old : List Float) (r : Answer) (new : List Float) : Type 0 where
@@ -95,4 +81,4 @@ pub record BoundaryCall (n : Counts) (m : Grid) (k : Conditions) (responses : Fi
 pub record Bounded (k : Bounds) (faces : ℕ) : Type 0 where
   pub codes : length (k .codes) ≡ 2 * faces
   pub values : length (k .values) ≡ 4 * faces
-  pub peers : (f : ℕ) → f < faces → secondAt (k .codes) f ≤ faces
+  pub peers : (f : ℕ) → f < faces → peerAt (k .codes) f ≤ faces

@@ -33,7 +33,9 @@ pub fn flux_at(
 ) -> Outcome
     requires { ⌜ Correctable (correcting (now adjacency) (now codes) (now values) (now predicted) (now coefficients) (now correction)) ⌝ }
     requires { ⌜ f < length (now predicted) ⌝ }
-    ensures { λ r. ⌜ r ≡ correctedFluxAt (correcting (now (adjacency .entry)) (now (codes .entry)) (now (values .entry)) (now (predicted .entry)) (now (coefficients .entry)) (now (correction .entry))) f ⌝ }
+    ensures answer { λ r.
+        let d = correcting (now (adjacency .entry)) (now (codes .entry)) (now (values .entry)) (now (predicted .entry)) (now (coefficients .entry)) (now (correction .entry)) in
+        ⌜ r ≡ correctedFluxAt d f ⌝ }
 {
     let o = chain::inner::first_of(adjacency, f);
     let own = correction[o];
@@ -63,7 +65,9 @@ fn fill(
 ) -> Answer
     requires { ⌜ Correctable (correcting (now adjacency) (now codes) (now values) (now predicted) (now coefficients) (now correction)) ⌝ }
     requires { ⌜ length (now out) ≡ length (now predicted) ⌝ }
-    ensures { λ r. ⌜ Passes (correctionAnswer (correcting (now (adjacency .entry)) (now (codes .entry)) (now (values .entry)) (now (predicted .entry)) (now (coefficients .entry)) (now (correction .entry)))) (correctedFluxes (correcting (now (adjacency .entry)) (now (codes .entry)) (now (values .entry)) (now (predicted .entry)) (now (coefficients .entry)) (now (correction .entry)))) r (now (out .exit)) ⌝ }
+    ensures passes { λ r.
+        let d = correcting (now (adjacency .entry)) (now (codes .entry)) (now (values .entry)) (now (predicted .entry)) (now (coefficients .entry)) (now (correction .entry)) in
+        ⌜ Passes (correctionAnswer d) (correctedFluxes d) r (now (out .exit)) ⌝ }
 {
     let mut face = 0;
     while face < predicted.len() {
@@ -95,8 +99,11 @@ pub fn correct_face_flux(
 ) -> Answer
     requires { ⌜ Correctable (correcting (now adjacency) (now codes) (now values) (now predicted) (now coefficients) (now correction)) ⌝ }
     requires { ⌜ length (now out) ≡ length (now predicted) ⌝ }
-    ensures { λ r. ⌜ r ≡ correctionAnswer (correcting (now (adjacency .entry)) (now (codes .entry)) (now (values .entry)) (now (predicted .entry)) (now (coefficients .entry)) (now (correction .entry))) ⌝ }
-    ensures { λ r. ⌜ now (out .exit) ≡ handedOut r (length (now (predicted .entry))) (correctedFluxes (correcting (now (adjacency .entry)) (now (codes .entry)) (now (values .entry)) (now (predicted .entry)) (now (coefficients .entry)) (now (correction .entry)))) ⌝ }
+    ensures answer { λ r.
+        let d = correcting (now (adjacency .entry)) (now (codes .entry)) (now (values .entry)) (now (predicted .entry)) (now (coefficients .entry)) (now (correction .entry)) in
+        ⌜ r ≡ correctionAnswer d ⌝ }
+    ensures contents { λ r.
+        ⌜ now (out .exit) ≡ handedOut r (length (now (predicted .entry))) (correctedFluxes (correcting (now (adjacency .entry)) (now (codes .entry)) (now (values .entry)) (now (predicted .entry)) (now (coefficients .entry)) (now (correction .entry)))) ⌝ }
 {
     let a = fill(
         adjacency,

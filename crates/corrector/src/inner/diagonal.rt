@@ -11,7 +11,8 @@ use passes::settle;
 // Writes the inverses up to the first refusal.
 fn invert(diagonal: &[f64], out: &mut [f64]) -> Answer
     requires { ⌜ length (now out) ≡ length (now diagonal) ⌝ }
-    ensures { λ r. ⌜ Passes (inverseAnswer (now (diagonal .entry))) (inverses (now (diagonal .entry))) r (now (out .exit)) ⌝ }
+    ensures passes { λ r.
+        ⌜ Passes (inverseAnswer (now (diagonal .entry))) (inverses (now (diagonal .entry))) r (now (out .exit)) ⌝ }
 {
     let mut c = 0;
     while c < diagonal.len() {
@@ -27,7 +28,8 @@ fn invert(diagonal: &[f64], out: &mut [f64]) -> Answer
 pub fn momentum_inverse_diagonal(diagonal: &[f64], out: &mut [f64]) -> Answer
     requires { ⌜ length (now out) ≡ length (now diagonal) ⌝ }
     ensures { λ r. ⌜ r ≡ inverseAnswer (now (diagonal .entry)) ⌝ }
-    ensures { λ r. ⌜ now (out .exit) ≡ handedOut r (length (now (diagonal .entry))) (inverses (now (diagonal .entry))) ⌝ }
+    ensures contents { λ r.
+        ⌜ now (out .exit) ≡ handedOut r (length (now (diagonal .entry))) (inverses (now (diagonal .entry))) ⌝ }
 {
     let a = invert(diagonal, out);
     settle(out, a)

@@ -50,7 +50,10 @@ fn divergence_at(places: &[f64], outflow: &[f64], c: usize) -> Outcome
 // The largest divergence beside a root mean square.
 fn measure(places: &[f64], outflow: &[f64], rms: f64) -> Metrics
     requires { ⌜ length (now places) ≡ 4 * length (now outflow) ⌝ }
-    ensures { λ r. ⌜ r ≡ measuredBy (firstRefusal (divergenceAt (now (places .entry)) (now (outflow .entry))) (length (now (outflow .entry)))) rms (largest (divergenceAt (now (places .entry)) (now (outflow .entry))) (length (now (outflow .entry)))) ⌝ }
+    ensures answer { λ r.
+        let g = divergenceAt (now (places .entry)) (now (outflow .entry)) in
+        let n = length (now (outflow .entry)) in
+        ⌜ r ≡ measuredBy (firstRefusal g n) rms (largest g n) ⌝ }
 {
     let mut maximum = 0.0;
     let mut c = 0;
@@ -105,9 +108,16 @@ pub fn continuity_metrics(
 ) -> Answer
     requires { ⌜ Flows (length (now outflow)) (now adjacency) (now flux) ⌝ }
     requires { ⌜ (length (now places) ≡ 4 * length (now outflow)) × (length (now outflow) ≤ 65535) × (length (now metrics) ≡ 2) ⌝ }
-    ensures { λ r. ⌜ r ≡ metricsAnswer (metricsOf (now (places .entry)) (outflows (length (now (outflow .entry))) (now (adjacency .entry)) (now (flux .entry)))) ⌝ }
-    ensures { λ r. ⌜ now (outflow .exit) ≡ handedOut r (length (now (outflow .entry))) (outflows (length (now (outflow .entry))) (now (adjacency .entry)) (now (flux .entry))) ⌝ }
-    ensures { λ _. ⌜ now (metrics .exit) ≡ metricsNumbers (metricsOf (now (places .entry)) (outflows (length (now (outflow .entry))) (now (adjacency .entry)) (now (flux .entry)))) ⌝ }
+    ensures answer { λ r.
+        let sums = outflows (length (now (outflow .entry))) (now (adjacency .entry)) (now (flux .entry)) in
+        let metric = metricsOf (now (places .entry)) sums in
+        ⌜ r ≡ metricsAnswer metric ⌝ }
+    ensures sums { λ r.
+        let n = length (now (outflow .entry)) in
+        ⌜ now (outflow .exit) ≡ handedOut r n (outflows n (now (adjacency .entry)) (now (flux .entry))) ⌝ }
+    ensures numbers { λ _.
+        let sums = outflows (length (now (outflow .entry))) (now (adjacency .entry)) (now (flux .entry)) in
+        ⌜ now (metrics .exit) ≡ metricsNumbers (metricsOf (now (places .entry)) sums) ⌝ }
 {
     numerics::inner::outflow::integrated_divergence(adjacency, flux, outflow);
     outflow_metrics(places, outflow, metrics)

@@ -26,9 +26,14 @@ fn corrected_at(velocity: &[f64], responses: &[f64], gradient: &[f64], c: usize)
 
 // Writes the velocities up to the first cell that refuses, which it answers.
 fn correct(velocity: &[f64], responses: &[f64], gradient: &[f64], out: &mut [f64]) -> Found
-    requires { ⌜ (length (now velocity) ≡ 3 * length (now responses)) × (length (now gradient) ≡ 3 * length (now responses)) × (length (now out) ≡ 3 * length (now responses)) ⌝ }
-    ensures { λ r. ⌜ r ≡ lowestWhere (failsAt (now (velocity .entry)) (now (responses .entry)) (now (gradient .entry))) (length (now (responses .entry))) ⌝ }
-    ensures { λ r. ⌜ (r ≡ Nothing → now (out .exit) ≡ correctedVelocities (now (velocity .entry)) (now (responses .entry)) (now (gradient .entry))) ⌝ }
+    requires lent { ⌜ (length (now velocity) ≡ 3 * length (now responses))
+        × (length (now gradient) ≡ 3 * length (now responses))
+        × (length (now out) ≡ 3 * length (now responses)) ⌝ }
+    ensures answer { λ r.
+        let w = now (responses .entry) in
+        ⌜ r ≡ lowestWhere (failsAt (now (velocity .entry)) w (now (gradient .entry))) (length w) ⌝ }
+    ensures gives { λ r.
+        ⌜ (r ≡ Nothing → now (out .exit) ≡ correctedVelocities (now (velocity .entry)) (now (responses .entry)) (now (gradient .entry))) ⌝ }
 {
     let mut c = 0;
     while c < responses.len() {
@@ -48,9 +53,12 @@ pub fn correct_cell_velocity_from_gradient(
     gradient: &[f64],
     out: &mut [f64],
 ) -> Answer
-    requires { ⌜ (length (now velocity) ≡ 3 * length (now responses)) × (length (now gradient) ≡ 3 * length (now responses)) × (length (now out) ≡ 3 * length (now responses)) ⌝ }
+    requires lent { ⌜ (length (now velocity) ≡ 3 * length (now responses))
+        × (length (now gradient) ≡ 3 * length (now responses))
+        × (length (now out) ≡ 3 * length (now responses)) ⌝ }
     ensures { λ r. ⌜ r ≡ velocityAnswer (now (velocity .entry)) (now (responses .entry)) (now (gradient .entry)) ⌝ }
-    ensures { λ r. ⌜ now (out .exit) ≡ handedOut r (length (now (out .entry))) (correctedVelocities (now (velocity .entry)) (now (responses .entry)) (now (gradient .entry))) ⌝ }
+    ensures contents { λ r.
+        ⌜ now (out .exit) ≡ handedOut r (length (now (out .entry))) (correctedVelocities (now (velocity .entry)) (now (responses .entry)) (now (gradient .entry))) ⌝ }
 {
     let found = correct(velocity, responses, gradient, out);
     match found {

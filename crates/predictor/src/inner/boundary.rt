@@ -5,11 +5,12 @@ ghost use lib.ListN.{length, getD};
 ghost use lib.Ieee.{nan};
 ghost use Rattle.mesh.specs.Pass.{handedOut};
 ghost use Rattle.mesh.specs.declared.Outcome.the-variants.{Value};
-ghost use Rattle.mesh.specs.Records.{faceAt};
-ghost use Rattle.chain.specs.Pairs.{secondAt};
-ghost use Rattle.predictor.specs.Boundary.{bounds, Bounded, Begun, byCondition, linkedAt, boundaryAt, coefficientAt, boundaryAnswer, boundaryCoefficients};
+ghost use Rattle.mesh.specs.Lent.{boundsLent};
+ghost use Rattle.mesh.specs.Mesh.{bounds};
+ghost use Rattle.mesh.specs.Records.{peerAt};
+ghost use Rattle.predictor.specs.Boundary.{Bounded, Begun, byCondition, linkedAt, boundaryAt, coefficientAt, boundaryAnswer, boundaryCoefficients};
 ghost use Rattle.predictor.specs.Coefficients.{internalAt};
-ghost use Rattle.coupling.specs.Grid.{grid, Coupled};
+ghost use Rattle.coupling.specs.Grid.{grid, gridLent, Coupled};
 ghost use Rattle.passes.specs.Staged.{staged, Passes};
 use crate::inner::coefficients::internal_at;
 use crate::inner::coefficients::pair_at;
@@ -39,7 +40,9 @@ fn by_condition(
 ) -> Outcome
     requires { ⌜ Coupled (grid (now adjacency) (now geometry) (now places)) (length (now responses)) faces ⌝ }
     requires { ⌜ f < faces ⌝ }
-    ensures { λ r. ⌜ r ≡ byCondition (grid (now (adjacency .entry)) (now (geometry .entry)) (now (places .entry))) (now (responses .entry)) f condition ⌝ }
+    ensures answer { λ r.
+        let m = gridLent adjacency geometry places in
+        ⌜ r ≡ byCondition m (now (responses .entry)) f condition ⌝ }
 {
     match condition {
         Condition::Fixed(_) => {
@@ -67,8 +70,11 @@ fn linked_at(
 ) -> Outcome
     requires { ⌜ Coupled (grid (now adjacency) (now geometry) (now places)) (length (now responses)) faces ⌝ }
     requires { ⌜ Bounded (bounds (now codes) (now values)) faces ⌝ }
-    requires { ⌜ (f < faces) × (0 < secondAt (now codes) f) ⌝ }
-    ensures { λ r. ⌜ r ≡ linkedAt (grid (now (adjacency .entry)) (now (geometry .entry)) (now (places .entry))) (bounds (now (codes .entry)) (now (values .entry))) (now (responses .entry)) f ⌝ }
+    requires { ⌜ (f < faces) × (0 < peerAt (now codes) f) ⌝ }
+    ensures answer { λ r.
+        let m = gridLent adjacency geometry places in
+        let k = boundsLent codes values in
+        ⌜ r ≡ linkedAt m k (now (responses .entry)) f ⌝ }
 {
     let link = mesh::inner::link_at(codes, values, f);
     let face = mesh::inner::face_at(adjacency, geometry, f);
@@ -92,7 +98,10 @@ fn boundary_at(
     requires { ⌜ Coupled (grid (now adjacency) (now geometry) (now places)) (length (now responses)) faces ⌝ }
     requires { ⌜ Bounded (bounds (now codes) (now values)) faces ⌝ }
     requires { ⌜ f < faces ⌝ }
-    ensures { λ r. ⌜ r ≡ boundaryAt (grid (now (adjacency .entry)) (now (geometry .entry)) (now (places .entry))) (bounds (now (codes .entry)) (now (values .entry))) (now (responses .entry)) f ⌝ }
+    ensures answer { λ r.
+        let m = gridLent adjacency geometry places in
+        let k = boundsLent codes values in
+        ⌜ r ≡ boundaryAt m k (now (responses .entry)) f ⌝ }
 {
     let peer = chain::inner::second_of(codes, f);
     if peer == 0 {
@@ -125,7 +134,10 @@ fn stage_at(
     requires { ⌜ Coupled (grid (now adjacency) (now geometry) (now places)) (length (now responses)) faces ⌝ }
     requires { ⌜ Bounded (bounds (now codes) (now values)) faces ⌝ }
     requires { ⌜ f < faces ⌝ }
-    ensures { λ r. ⌜ r ≡ staged (internalAt (grid (now (adjacency .entry)) (now (geometry .entry)) (now (places .entry))) (now (responses .entry)) f) (coefficientAt (grid (now (adjacency .entry)) (now (geometry .entry)) (now (places .entry))) (bounds (now (codes .entry)) (now (values .entry))) (now (responses .entry)) f) ⌝ }
+    ensures answer { λ r.
+        let m = gridLent adjacency geometry places in
+        let k = boundsLent codes values in
+        ⌜ r ≡ staged (internalAt m (now (responses .entry)) f) (coefficientAt m k (now (responses .entry)) f) ⌝ }
 {
     let neighbour = chain::inner::second_of(adjacency, f);
     if neighbour == 0 {
@@ -155,7 +167,12 @@ fn fill(
 ) -> Answer
     requires { ⌜ Coupled (grid (now adjacency) (now geometry) (now places)) (length (now responses)) (length (now out)) ⌝ }
     requires { ⌜ Bounded (bounds (now codes) (now values)) (length (now out)) ⌝ }
-    ensures { λ r. ⌜ Passes (boundaryAnswer (grid (now (adjacency .entry)) (now (geometry .entry)) (now (places .entry))) (bounds (now (codes .entry)) (now (values .entry))) (now (responses .entry)) (length (now (out .entry)))) (boundaryCoefficients (grid (now (adjacency .entry)) (now (geometry .entry)) (now (places .entry))) (bounds (now (codes .entry)) (now (values .entry))) (now (responses .entry)) (length (now (out .entry)))) r (now (out .exit)) ⌝ }
+    ensures passes { λ r.
+        let m = gridLent adjacency geometry places in
+        let k = boundsLent codes values in
+        let w = now (responses .entry) in
+        let n = length (now (out .entry)) in
+        ⌜ Passes (boundaryAnswer m k w n) (boundaryCoefficients m k w n) r (now (out .exit)) ⌝ }
 {
     let mut a = Answer::Accepted;
     let mut f = 0;
@@ -193,8 +210,15 @@ pub fn pressure_face_coefficients_with_boundary(
 ) -> Answer
     requires { ⌜ Coupled (grid (now adjacency) (now geometry) (now places)) (length (now responses)) (length (now out)) ⌝ }
     requires { ⌜ Bounded (bounds (now codes) (now values)) (length (now out)) ⌝ }
-    ensures { λ r. ⌜ r ≡ boundaryAnswer (grid (now (adjacency .entry)) (now (geometry .entry)) (now (places .entry))) (bounds (now (codes .entry)) (now (values .entry))) (now (responses .entry)) (length (now (out .entry))) ⌝ }
-    ensures { λ r. ⌜ now (out .exit) ≡ handedOut r (length (now (out .entry))) (boundaryCoefficients (grid (now (adjacency .entry)) (now (geometry .entry)) (now (places .entry))) (bounds (now (codes .entry)) (now (values .entry))) (now (responses .entry)) (length (now (out .entry)))) ⌝ }
+    ensures answer { λ r.
+        let m = gridLent adjacency geometry places in
+        let k = boundsLent codes values in
+        ⌜ r ≡ boundaryAnswer m k (now (responses .entry)) (length (now (out .entry))) ⌝ }
+    ensures contents { λ r.
+        let m = gridLent adjacency geometry places in
+        let k = boundsLent codes values in
+        let n = length (now (out .entry)) in
+        ⌜ now (out .exit) ≡ handedOut r n (boundaryCoefficients m k (now (responses .entry)) n) ⌝ }
 {
     let a = fill(adjacency, geometry, places, codes, values, responses, out);
     settle(out, a)
@@ -213,8 +237,12 @@ fn completed_at(
 ) -> Outcome
     requires { ⌜ Coupled (grid (now adjacency) (now geometry) (now places)) (length (now responses)) (length (now out)) ⌝ }
     requires { ⌜ Bounded (bounds (now codes) (now values)) (length (now out)) ⌝ }
-    requires { ⌜ (f < length (now out)) × (internalAt (grid (now adjacency) (now geometry) (now places)) (now responses) f ≡ Value (getD (now out) f nan)) ⌝ }
-    ensures { λ r. ⌜ r ≡ coefficientAt (grid (now (adjacency .entry)) (now (geometry .entry)) (now (places .entry))) (bounds (now (codes .entry)) (now (values .entry))) (now (responses .entry)) f ⌝ }
+    requires lent { let m = grid (now adjacency) (now geometry) (now places) in
+        ⌜ (f < length (now out)) × (internalAt m (now responses) f ≡ Value (getD (now out) f nan)) ⌝ }
+    ensures answer { λ r.
+        let m = gridLent adjacency geometry places in
+        let k = boundsLent codes values in
+        ⌜ r ≡ coefficientAt m k (now (responses .entry)) f ⌝ }
 {
     let neighbour = chain::inner::second_of(adjacency, f);
     if neighbour == 0 {
@@ -246,7 +274,12 @@ pub fn complete(
     requires { ⌜ Coupled (grid (now adjacency) (now geometry) (now places)) (length (now responses)) (length (now out)) ⌝ }
     requires { ⌜ Bounded (bounds (now codes) (now values)) (length (now out)) ⌝ }
     requires { ⌜ Begun (grid (now adjacency) (now geometry) (now places)) (now responses) (now out) ⌝ }
-    ensures { λ r. ⌜ Passes (boundaryAnswer (grid (now (adjacency .entry)) (now (geometry .entry)) (now (places .entry))) (bounds (now (codes .entry)) (now (values .entry))) (now (responses .entry)) (length (now (out .entry)))) (boundaryCoefficients (grid (now (adjacency .entry)) (now (geometry .entry)) (now (places .entry))) (bounds (now (codes .entry)) (now (values .entry))) (now (responses .entry)) (length (now (out .entry)))) r (now (out .exit)) ⌝ }
+    ensures passes { λ r.
+        let m = gridLent adjacency geometry places in
+        let k = boundsLent codes values in
+        let w = now (responses .entry) in
+        let n = length (now (out .entry)) in
+        ⌜ Passes (boundaryAnswer m k w n) (boundaryCoefficients m k w n) r (now (out .exit)) ⌝ }
 {
     let mut f = 0;
     while f < out.len() {

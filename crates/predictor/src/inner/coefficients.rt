@@ -6,7 +6,7 @@ ghost use lib.Ieee.{nan};
 ghost use Rattle.mesh.specs.Pass.{handedOut};
 ghost use Rattle.coupling.specs.Face.{pair};
 ghost use Rattle.predictor.specs.Coefficients.{internalAt, coefficientAnswer, coefficients};
-ghost use Rattle.coupling.specs.Grid.{grid, spanOf, distancesTo, Coupled};
+ghost use Rattle.coupling.specs.Grid.{grid, gridLent, spanOf, distancesTo, Coupled};
 ghost use Rattle.passes.specs.Staged.{Passes};
 use coupling::Pair;
 use coupling::Span;
@@ -67,7 +67,9 @@ pub fn internal_at(
 ) -> Outcome
     requires { ⌜ Coupled (grid (now adjacency) (now geometry) (now places)) (length (now responses)) faces ⌝ }
     requires { ⌜ f < faces ⌝ }
-    ensures { λ r. ⌜ r ≡ internalAt (grid (now (adjacency .entry)) (now (geometry .entry)) (now (places .entry))) (now (responses .entry)) f ⌝ }
+    ensures answer { λ r.
+        let m = gridLent adjacency geometry places in
+        ⌜ r ≡ internalAt m (now (responses .entry)) f ⌝ }
 {
     let face = mesh::inner::face_at(adjacency, geometry, f);
     if face.neighbour == 0 {
@@ -90,7 +92,11 @@ fn fill(
     out: &mut [f64],
 ) -> Answer
     requires { ⌜ Coupled (grid (now adjacency) (now geometry) (now places)) (length (now responses)) (length (now out)) ⌝ }
-    ensures { λ r. ⌜ Passes (coefficientAnswer (grid (now (adjacency .entry)) (now (geometry .entry)) (now (places .entry))) (now (responses .entry)) (length (now (out .entry)))) (coefficients (grid (now (adjacency .entry)) (now (geometry .entry)) (now (places .entry))) (now (responses .entry)) (length (now (out .entry)))) r (now (out .exit)) ⌝ }
+    ensures passes { λ r.
+        let m = gridLent adjacency geometry places in
+        let w = now (responses .entry) in
+        let n = length (now (out .entry)) in
+        ⌜ Passes (coefficientAnswer m w n) (coefficients m w n) r (now (out .exit)) ⌝ }
 {
     let mut f = 0;
     while f < out.len() {
@@ -111,8 +117,13 @@ pub fn pressure_face_coefficients(
     out: &mut [f64],
 ) -> Answer
     requires { ⌜ Coupled (grid (now adjacency) (now geometry) (now places)) (length (now responses)) (length (now out)) ⌝ }
-    ensures { λ r. ⌜ r ≡ coefficientAnswer (grid (now (adjacency .entry)) (now (geometry .entry)) (now (places .entry))) (now (responses .entry)) (length (now (out .entry))) ⌝ }
-    ensures { λ r. ⌜ now (out .exit) ≡ handedOut r (length (now (out .entry))) (coefficients (grid (now (adjacency .entry)) (now (geometry .entry)) (now (places .entry))) (now (responses .entry)) (length (now (out .entry)))) ⌝ }
+    ensures answer { λ r.
+        let m = gridLent adjacency geometry places in
+        ⌜ r ≡ coefficientAnswer m (now (responses .entry)) (length (now (out .entry))) ⌝ }
+    ensures contents { λ r.
+        let m = gridLent adjacency geometry places in
+        let n = length (now (out .entry)) in
+        ⌜ now (out .exit) ≡ handedOut r n (coefficients m (now (responses .entry)) n) ⌝ }
 {
     let a = fill(adjacency, geometry, places, responses, out);
     settle(out, a)

@@ -3,12 +3,12 @@ ghost use mathlib.Core.Path.{_≡_};
 ghost use Prim.Native.Nat.{_+_, _*_, _<_};
 ghost use lib.ListN.{length};
 ghost use Rattle.mesh.specs.Pass.{handedOut};
-ghost use Rattle.chain.specs.Pairs.{secondAt};
-ghost use Rattle.numerics.specs.Slices.{slices};
+ghost use Rattle.mesh.specs.Records.{neighbourAt};
+ghost use Rattle.numerics.specs.Slices.{slices, slicesBefore};
 ghost use Rattle.numerics.specs.Gradient.{gradients, Sloped};
 ghost use Rattle.predictor.specs.Coefficients.{internalAt, coefficients};
-ghost use Rattle.coupling.specs.Grid.{grid, Coupled};
-ghost use Rattle.predictor.specs.Prediction.{flow, sideAt, predictedAt, predictionAnswer, predictedFluxes, Flowing};
+ghost use Rattle.coupling.specs.Grid.{grid, gridLent, Coupled};
+ghost use Rattle.predictor.specs.Prediction.{flow, flowLent, sideAt, predictedAt, predictionAnswer, predictedFluxes, Flowing};
 ghost use Rattle.passes.specs.Staged.{staged, storedAt, Passes, Fills};
 use crate::inner::coefficients::distances_at;
 use crate::inner::coefficients::pair_at;
@@ -35,8 +35,13 @@ fn side_at(
     responses: &[f64],
     c: usize,
 ) -> Side
-    requires { ⌜ (3 * c + 2 < length (now velocity)) × (3 * c + 2 < length (now gradient)) × (c < length (now pressure)) × (c < length (now responses)) ⌝ }
-    ensures { λ r. ⌜ r ≡ sideAt (flow (now (velocity .entry)) (now (pressure .entry)) (now (gradient .entry)) (now (responses .entry))) c ⌝ }
+    requires lent { ⌜ (3 * c + 2 < length (now velocity))
+        × (3 * c + 2 < length (now gradient))
+        × (c < length (now pressure))
+        × (c < length (now responses)) ⌝ }
+    ensures answer { λ r.
+        let q = flowLent velocity pressure gradient responses in
+        ⌜ r ≡ sideAt q c ⌝ }
 {
     let b = 3 * c;
     Side {
@@ -61,10 +66,17 @@ fn between(
     f: usize,
     internal: &mut [f64],
 ) -> Stage
-    requires { ⌜ Flowing (grid (now adjacency) (now geometry) (now places)) (flow (now velocity) (now pressure) (now gradient) (now responses)) (length (now walls)) ⌝ }
-    requires { ⌜ (f < length (now walls)) × (0 < secondAt (now adjacency) f) ⌝ }
-    ensures { λ r. ⌜ r ≡ staged (internalAt (grid (now (adjacency .entry)) (now (geometry .entry)) (now (places .entry))) (now (responses .entry)) f) (predictedAt (grid (now (adjacency .entry)) (now (geometry .entry)) (now (places .entry))) (flow (now (velocity .entry)) (now (pressure .entry)) (now (gradient .entry)) (now (responses .entry))) (now (walls .entry)) f) ⌝ }
-    ensures { λ _. ⌜ now (internal .exit) ≡ storedAt (now (internal .entry)) f (internalAt (grid (now (adjacency .entry)) (now (geometry .entry)) (now (places .entry))) (now (responses .entry)) f) ⌝ }
+    requires lent { let m = grid (now adjacency) (now geometry) (now places) in
+        let q = flow (now velocity) (now pressure) (now gradient) (now responses) in
+        ⌜ Flowing m q (length (now walls)) ⌝ }
+    requires { ⌜ (f < length (now walls)) × (0 < neighbourAt (now adjacency) f) ⌝ }
+    ensures answer { λ r.
+        let m = gridLent adjacency geometry places in
+        let q = flowLent velocity pressure gradient responses in
+        ⌜ r ≡ staged (internalAt m (now (responses .entry)) f) (predictedAt m q (now (walls .entry)) f) ⌝ }
+    ensures stored { λ _.
+        let m = gridLent adjacency geometry places in
+        ⌜ now (internal .exit) ≡ storedAt (now (internal .entry)) f (internalAt m (now (responses .entry)) f) ⌝ }
 {
     let face = mesh::inner::face_at(adjacency, geometry, f);
     let n = face.neighbour - 1;
@@ -96,10 +108,17 @@ fn stage_at(
     f: usize,
     internal: &mut [f64],
 ) -> Stage
-    requires { ⌜ Flowing (grid (now adjacency) (now geometry) (now places)) (flow (now velocity) (now pressure) (now gradient) (now responses)) (length (now walls)) ⌝ }
+    requires lent { let m = grid (now adjacency) (now geometry) (now places) in
+        let q = flow (now velocity) (now pressure) (now gradient) (now responses) in
+        ⌜ Flowing m q (length (now walls)) ⌝ }
     requires { ⌜ f < length (now walls) ⌝ }
-    ensures { λ r. ⌜ r ≡ staged (internalAt (grid (now (adjacency .entry)) (now (geometry .entry)) (now (places .entry))) (now (responses .entry)) f) (predictedAt (grid (now (adjacency .entry)) (now (geometry .entry)) (now (places .entry))) (flow (now (velocity .entry)) (now (pressure .entry)) (now (gradient .entry)) (now (responses .entry))) (now (walls .entry)) f) ⌝ }
-    ensures { λ _. ⌜ now (internal .exit) ≡ storedAt (now (internal .entry)) f (internalAt (grid (now (adjacency .entry)) (now (geometry .entry)) (now (places .entry))) (now (responses .entry)) f) ⌝ }
+    ensures answer { λ r.
+        let m = gridLent adjacency geometry places in
+        let q = flowLent velocity pressure gradient responses in
+        ⌜ r ≡ staged (internalAt m (now (responses .entry)) f) (predictedAt m q (now (walls .entry)) f) ⌝ }
+    ensures stored { λ _.
+        let m = gridLent adjacency geometry places in
+        ⌜ now (internal .exit) ≡ storedAt (now (internal .entry)) f (internalAt m (now (responses .entry)) f) ⌝ }
 {
     let neighbour = chain::inner::second_of(adjacency, f);
     if neighbour == 0 {
@@ -134,10 +153,18 @@ fn predict(
     internal: &mut [f64],
     out: &mut [f64],
 ) -> Answer
-    requires { ⌜ Flowing (grid (now adjacency) (now geometry) (now places)) (flow (now velocity) (now pressure) (now gradient) (now responses)) (length (now walls)) ⌝ }
+    requires lent { let m = grid (now adjacency) (now geometry) (now places) in
+        let q = flow (now velocity) (now pressure) (now gradient) (now responses) in
+        ⌜ Flowing m q (length (now walls)) ⌝ }
     requires { ⌜ length (now out) ≡ length (now walls) ⌝ }
-    ensures { λ r. ⌜ Passes (predictionAnswer (grid (now (adjacency .entry)) (now (geometry .entry)) (now (places .entry))) (flow (now (velocity .entry)) (now (pressure .entry)) (now (gradient .entry)) (now (responses .entry))) (now (walls .entry))) (predictedFluxes (grid (now (adjacency .entry)) (now (geometry .entry)) (now (places .entry))) (flow (now (velocity .entry)) (now (pressure .entry)) (now (gradient .entry)) (now (responses .entry))) (now (walls .entry))) r (now (out .exit)) ⌝ }
-    ensures { λ r. ⌜ Fills (length (now (internal .entry))) (length (now (walls .entry))) (coefficients (grid (now (adjacency .entry)) (now (geometry .entry)) (now (places .entry))) (now (responses .entry)) (length (now (walls .entry)))) r (now (internal .exit)) ⌝ }
+    ensures passes { λ r.
+        let m = gridLent adjacency geometry places in
+        let q = flowLent velocity pressure gradient responses in
+        ⌜ Passes (predictionAnswer m q (now (walls .entry))) (predictedFluxes m q (now (walls .entry))) r (now (out .exit)) ⌝ }
+    ensures coefficients { λ r.
+        let m = gridLent adjacency geometry places in
+        let n = length (now (walls .entry)) in
+        ⌜ Fills (length (now (internal .entry))) n (coefficients m (now (responses .entry)) n) r (now (internal .exit)) ⌝ }
 {
     let mut a = Answer::Accepted;
     let mut f = 0;
@@ -179,11 +206,22 @@ pub fn predicted_flux(
     internal: &mut [f64],
     out: &mut [f64],
 ) -> Answer
-    requires { ⌜ Flowing (grid (now adjacency) (now geometry) (now places)) (flow (now velocity) (now pressure) (now gradient) (now responses)) (length (now walls)) ⌝ }
+    requires lent { let m = grid (now adjacency) (now geometry) (now places) in
+        let q = flow (now velocity) (now pressure) (now gradient) (now responses) in
+        ⌜ Flowing m q (length (now walls)) ⌝ }
     requires { ⌜ length (now out) ≡ length (now walls) ⌝ }
-    ensures { λ r. ⌜ r ≡ predictionAnswer (grid (now (adjacency .entry)) (now (geometry .entry)) (now (places .entry))) (flow (now (velocity .entry)) (now (pressure .entry)) (now (gradient .entry)) (now (responses .entry))) (now (walls .entry)) ⌝ }
-    ensures { λ r. ⌜ now (out .exit) ≡ handedOut r (length (now (walls .entry))) (predictedFluxes (grid (now (adjacency .entry)) (now (geometry .entry)) (now (places .entry))) (flow (now (velocity .entry)) (now (pressure .entry)) (now (gradient .entry)) (now (responses .entry))) (now (walls .entry))) ⌝ }
-    ensures { λ r. ⌜ Fills (length (now (internal .entry))) (length (now (walls .entry))) (coefficients (grid (now (adjacency .entry)) (now (geometry .entry)) (now (places .entry))) (now (responses .entry)) (length (now (walls .entry)))) r (now (internal .exit)) ⌝ }
+    ensures answer { λ r.
+        let m = gridLent adjacency geometry places in
+        let q = flowLent velocity pressure gradient responses in
+        ⌜ r ≡ predictionAnswer m q (now (walls .entry)) ⌝ }
+    ensures contents { λ r.
+        let m = gridLent adjacency geometry places in
+        let q = flowLent velocity pressure gradient responses in
+        ⌜ now (out .exit) ≡ handedOut r (length (now (walls .entry))) (predictedFluxes m q (now (walls .entry))) ⌝ }
+    ensures coefficients { λ r.
+        let m = gridLent adjacency geometry places in
+        let n = length (now (walls .entry)) in
+        ⌜ Fills (length (now (internal .entry))) n (coefficients m (now (responses .entry)) n) r (now (internal .exit)) ⌝ }
 {
     let a = predict(
         adjacency,
@@ -221,12 +259,30 @@ pub fn rhie_chow_predicted_flux(
     out: &mut [f64],
 ) -> Answer
     requires { ⌜ Sloped (slices (now starts) (now equations) (now weights) (now inverses)) records (now pressure) ⌝ }
-    requires { ⌜ Flowing (grid (now adjacency) (now geometry) (now places)) (flow (now velocity) (now pressure) (now gradient) (now responses)) (length (now walls)) ⌝ }
+    requires lent { let m = grid (now adjacency) (now geometry) (now places) in
+        let q = flow (now velocity) (now pressure) (now gradient) (now responses) in
+        ⌜ Flowing m q (length (now walls)) ⌝ }
     requires { ⌜ length (now out) ≡ length (now walls) ⌝ }
-    ensures { λ r. ⌜ r ≡ predictionAnswer (grid (now (adjacency .entry)) (now (geometry .entry)) (now (places .entry))) (flow (now (velocity .entry)) (now (pressure .entry)) (gradients (slices (now (starts .entry)) (now (equations .entry)) (now (weights .entry)) (now (inverses .entry))) records (now (pressure .entry)) (length (now (pressure .entry)))) (now (responses .entry))) (now (walls .entry)) ⌝ }
-    ensures { λ r. ⌜ now (gradient .exit) ≡ handedOut r (length (now (gradient .entry))) (gradients (slices (now (starts .entry)) (now (equations .entry)) (now (weights .entry)) (now (inverses .entry))) records (now (pressure .entry)) (length (now (pressure .entry)))) ⌝ }
-    ensures { λ r. ⌜ now (out .exit) ≡ handedOut r (length (now (walls .entry))) (predictedFluxes (grid (now (adjacency .entry)) (now (geometry .entry)) (now (places .entry))) (flow (now (velocity .entry)) (now (pressure .entry)) (gradients (slices (now (starts .entry)) (now (equations .entry)) (now (weights .entry)) (now (inverses .entry))) records (now (pressure .entry)) (length (now (pressure .entry)))) (now (responses .entry))) (now (walls .entry))) ⌝ }
-    ensures { λ r. ⌜ Fills (length (now (internal .entry))) (length (now (walls .entry))) (coefficients (grid (now (adjacency .entry)) (now (geometry .entry)) (now (places .entry))) (now (responses .entry)) (length (now (walls .entry)))) r (now (internal .exit)) ⌝ }
+    ensures answer { λ r.
+        let m = gridLent adjacency geometry places in
+        let s = slicesBefore starts equations weights inverses in
+        let slopes = gradients s records (now (pressure .entry)) (length (now (pressure .entry))) in
+        let q = flow (now (velocity .entry)) (now (pressure .entry)) slopes (now (responses .entry)) in
+        ⌜ r ≡ predictionAnswer m q (now (walls .entry)) ⌝ }
+    ensures slopes { λ r.
+        let s = slicesBefore starts equations weights inverses in
+        let slopes = gradients s records (now (pressure .entry)) (length (now (pressure .entry))) in
+        ⌜ now (gradient .exit) ≡ handedOut r (length (now (gradient .entry))) slopes ⌝ }
+    ensures contents { λ r.
+        let m = gridLent adjacency geometry places in
+        let s = slicesBefore starts equations weights inverses in
+        let slopes = gradients s records (now (pressure .entry)) (length (now (pressure .entry))) in
+        let q = flow (now (velocity .entry)) (now (pressure .entry)) slopes (now (responses .entry)) in
+        ⌜ now (out .exit) ≡ handedOut r (length (now (walls .entry))) (predictedFluxes m q (now (walls .entry))) ⌝ }
+    ensures coefficients { λ r.
+        let m = gridLent adjacency geometry places in
+        let n = length (now (walls .entry)) in
+        ⌜ Fills (length (now (internal .entry))) n (coefficients m (now (responses .entry)) n) r (now (internal .exit)) ⌝ }
 {
     numerics::inner::gradient::least_squares_gradient(
         starts,

@@ -1,7 +1,8 @@
 -- `predictor::inner::boundary::complete` meets its contract: below f the coefficients are complete, and from f on as they were.
 use Rattle.passes.proofs.Completed.{Completes, begun, still, further, ended, halted}
 use Rattle.passes.proofs.Stages.{never-accepted}
-use Rattle.predictor.specs.Boundary.{Bounded, bounds, coefficientAt}
+use Rattle.mesh.specs.Mesh.{bounds}
+use Rattle.predictor.specs.Boundary.{Bounded, coefficientAt}
 use Rattle.predictor.specs.Coefficients.{internalAt}
 use Rattle.coupling.specs.Grid.{Coupled, grid}
 use Rattle.mesh.specs.declared.Outcome.{Outcome}

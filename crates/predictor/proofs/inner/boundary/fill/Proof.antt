@@ -3,7 +3,8 @@ use Rattle.passes.specs.Staged.{lateAfter}
 use Rattle.passes.proofs.Stages.{not-late, Both, start, more, stop, finish}
 use Rattle.coupling.specs.Grid.{grid, Coupled}
 use Rattle.predictor.specs.Coefficients.{internalAt}
-use Rattle.predictor.specs.Boundary.{bounds, Bounded, coefficientAt}
+use Rattle.mesh.specs.Mesh.{bounds}
+use Rattle.predictor.specs.Boundary.{Bounded, coefficientAt}
 use Rattle.mesh.specs.declared.Outcome.{Outcome}
 use denote.Ref.{now}
 use lib.ListN.{length}

@@ -1,7 +1,8 @@
 -- `predictor::inner::boundary::linked_at` meets its contract: the peer's owner is a cell.
 use Rattle.predictor.proofs.Sides.{owned, in-places, linked, peer-reads, peer-owned}
 use Rattle.coupling.specs.Grid.{Grid, grid}
-use Rattle.predictor.specs.Boundary.{Bounds, bounds, linkedAt}
+use Rattle.mesh.specs.Mesh.{Bounds, bounds}
+use Rattle.predictor.specs.Boundary.{linkedAt}
 use denote.Ref.{now}
 use lib.ListN.{length}
 use native.Mathlib.Omega.{arith}

@@ -8,6 +8,8 @@ use lib.ListN.{length, getD}
 use lib.Ieee.{Float, nan}
 use Rattle.mesh.specs.Facts.{CellsOf}
 use Rattle.mesh.specs.Pass.{firstRefusal, valuesOf}
+use denote.Ref.{now}
+use Rattle.mesh.specs.Lent.{Slice}
 use Rattle.mesh.specs.Records.{ownerAt, neighbourAt, peerAt, conditionAt}
 use Rattle.mesh.specs.declared.Answer.{Answer}
 use Rattle.mesh.specs.declared.Condition.{Condition}
@@ -27,6 +29,11 @@ pub record Correcting : Type 0 where
 
 abbrev pub correcting : List ℕ → List ℕ → List Float → List Float → List Float → List Float → Correcting
 correcting a c v p k x = record { adjacency = a; codes = c; values = v; predicted = p; coefficients = k; correction = x }
+
+-- from the slices as a clause names them, at the call
+abbrev pub correctingLent : Slice ℕ → Slice ℕ → Slice Float → Slice Float → Slice Float → Slice Float → Correcting
+correctingLent a c v p k x =
+    correcting (now (a .entry)) (now (c .entry)) (now (v .entry)) (now (p .entry)) (now (k .entry)) (now (x .entry))
 
 -- a one-cell face without a link, by its condition: a zero gradient keeps the flux, whatever its coefficient
 unfoldable pub wallFlux : Condition → Float → Float → Float → Outcome

@@ -3,7 +3,7 @@ ghost use mathlib.Core.Path.{_≡_};
 ghost use Prim.Native.Nat.{_<_};
 ghost use lib.ListN.{length};
 ghost use Rattle.mesh.specs.Pass.{handedOut};
-ghost use Rattle.corrector.specs.Correction.{correcting, Correctable, wallFlux, correctedFluxAt, correctionAnswer, correctedFluxes};
+ghost use Rattle.corrector.specs.Correction.{correcting, correctingLent, Correctable, wallFlux, correctedFluxAt, correctionAnswer, correctedFluxes};
 ghost use Rattle.passes.specs.Staged.{Passes};
 use mesh::Answer;
 use mesh::Condition;
@@ -34,7 +34,7 @@ pub fn flux_at(
     requires { ⌜ Correctable (correcting (now adjacency) (now codes) (now values) (now predicted) (now coefficients) (now correction)) ⌝ }
     requires { ⌜ f < length (now predicted) ⌝ }
     ensures answer { λ r.
-        let d = correcting (now (adjacency .entry)) (now (codes .entry)) (now (values .entry)) (now (predicted .entry)) (now (coefficients .entry)) (now (correction .entry)) in
+        let d = correctingLent adjacency codes values predicted coefficients correction in
         ⌜ r ≡ correctedFluxAt d f ⌝ }
 {
     let o = chain::inner::first_of(adjacency, f);
@@ -66,7 +66,7 @@ fn fill(
     requires { ⌜ Correctable (correcting (now adjacency) (now codes) (now values) (now predicted) (now coefficients) (now correction)) ⌝ }
     requires { ⌜ length (now out) ≡ length (now predicted) ⌝ }
     ensures passes { λ r.
-        let d = correcting (now (adjacency .entry)) (now (codes .entry)) (now (values .entry)) (now (predicted .entry)) (now (coefficients .entry)) (now (correction .entry)) in
+        let d = correctingLent adjacency codes values predicted coefficients correction in
         ⌜ Passes (correctionAnswer d) (correctedFluxes d) r (now (out .exit)) ⌝ }
 {
     let mut face = 0;
@@ -100,10 +100,11 @@ pub fn correct_face_flux(
     requires { ⌜ Correctable (correcting (now adjacency) (now codes) (now values) (now predicted) (now coefficients) (now correction)) ⌝ }
     requires { ⌜ length (now out) ≡ length (now predicted) ⌝ }
     ensures answer { λ r.
-        let d = correcting (now (adjacency .entry)) (now (codes .entry)) (now (values .entry)) (now (predicted .entry)) (now (coefficients .entry)) (now (correction .entry)) in
+        let d = correctingLent adjacency codes values predicted coefficients correction in
         ⌜ r ≡ correctionAnswer d ⌝ }
     ensures contents { λ r.
-        ⌜ now (out .exit) ≡ handedOut r (length (now (predicted .entry))) (correctedFluxes (correcting (now (adjacency .entry)) (now (codes .entry)) (now (values .entry)) (now (predicted .entry)) (now (coefficients .entry)) (now (correction .entry)))) ⌝ }
+        let d = correctingLent adjacency codes values predicted coefficients correction in
+        ⌜ now (out .exit) ≡ handedOut r (length (now (predicted .entry))) (correctedFluxes d) ⌝ }
 {
     let a = fill(
         adjacency,

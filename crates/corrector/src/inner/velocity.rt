@@ -58,7 +58,8 @@ pub fn correct_cell_velocity_from_gradient(
         × (length (now out) ≡ 3 * length (now responses)) ⌝ }
     ensures { λ r. ⌜ r ≡ velocityAnswer (now (velocity .entry)) (now (responses .entry)) (now (gradient .entry)) ⌝ }
     ensures contents { λ r.
-        ⌜ now (out .exit) ≡ handedOut r (length (now (out .entry))) (correctedVelocities (now (velocity .entry)) (now (responses .entry)) (now (gradient .entry))) ⌝ }
+        let new = correctedVelocities (now (velocity .entry)) (now (responses .entry)) (now (gradient .entry)) in
+        ⌜ now (out .exit) ≡ handedOut r (length (now (out .entry))) new ⌝ }
 {
     let found = correct(velocity, responses, gradient, out);
     match found {

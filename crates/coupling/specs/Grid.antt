@@ -67,6 +67,9 @@ pub record Field : Type 0 where
 abbrev pub field : ℕ → List Float → Field
 field n v = record { number = n; values = v }
 
+abbrev pub fieldLent : ℕ → Slice Float → Field
+fieldLent n v = field n (now (v .entry))
+
 -- 2: each slice is as long as its records
 abbrev pub gridSizes : Counts → Grid → List Bool
 gridSizes n m =

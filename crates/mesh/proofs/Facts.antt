@@ -1,5 +1,5 @@
 -- What the checks establish once they pass. Assumes nothing.
-use mathlib.Core.Path.{_≡_, refl, sym, _∙_}
+use mathlib.Core.Path.{_≡_, refl, sym, ap, _∙_}
 use mathlib.Core.Logic.{inl, inr}
 use mathlib.Core.List.{List, [], _∷_}
 use mathlib.Core.Bool.{Bool, true, false, not, cond}
@@ -121,6 +121,14 @@ shape-first false b c x = refl
 shape-first true false c x = refl
 shape-first true true false x = refl
 shape-first true true true x = or-accepted x
+
+-- and two after them
+pub shape-both : (a b c : Bool) (x y : Answer) → firstOf (pass 1 a ∷ pass 2 b ∷ pass 3 c ∷ x ∷ y ∷ []) ≡ orElse (shape a b c) (orElse x y)
+unfolding shape firstOf orElse pass
+shape-both false b c x y = refl
+shape-both true false c x y = refl
+shape-both true true false x y = refl
+shape-both true true true x y = ap (orElse x) (or-accepted y)
 
 -- the first two of them
 pub shape-two : (a b : Bool) → firstOf (pass 1 a ∷ pass 2 b ∷ []) ≡ shape a b true

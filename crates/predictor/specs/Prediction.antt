@@ -25,7 +25,7 @@ use Rattle.numerics.specs.Gradient.{gradients, Sloped}
 use Rattle.coupling.specs.Face.{distances, side, predictedFlux}
 use Rattle.coupling.specs.declared.Side.{Side}
 use Rattle.predictor.specs.Coefficients.{internalAt}
-use Rattle.coupling.specs.Grid.{Grid, Field, Coupled, ownCell, otherCell, span, gridSized}
+use Rattle.coupling.specs.Grid.{Grid, Field, fieldLent, Coupled, ownCell, otherCell, span, gridSized}
 use Rattle.passes.specs.Staged.{twoRefusals}
 
 -- what a flux is predicted from: of the cells the velocity, the pressure, its gradient and the response
@@ -69,6 +69,9 @@ pub record FlowFields : Type 0 where
 
 abbrev pub flowFields : Field → Field → Field → Field → FlowFields
 flowFields v p r w = record { velocity = v; pressure = p; responses = r; walls = w }
+
+abbrev pub flowFieldsLent : ℕ → Slice Float → ℕ → Slice Float → ℕ → Slice Float → ℕ → Slice Float → FlowFields
+flowFieldsLent a v b p c r d w = flowFields (fieldLent a v) (fieldLent b p) (fieldLent c r) (fieldLent d w)
 
 -- the flow whose gradient is that of the pressure, by the stencil
 abbrev pub flowOf : Counts → ℕ → Slices → FlowFields → Flow

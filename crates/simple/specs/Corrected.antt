@@ -6,17 +6,17 @@ use Prim.Native.Nat.{ℕ, _*_}
 use lib.Dec.{eqb}
 use lib.ListN.{length}
 use lib.Ieee.{Float}
-use Rattle.mesh.specs.Answers.{orElse, shape}
+use Rattle.mesh.specs.Answers.{pass, firstOf, orElse}
 use Rattle.mesh.specs.Checks.{sizesOk}
-use Rattle.mesh.specs.Mesh.{Conditions, conditionsSized}
+use Rattle.mesh.specs.Lent.{Slice}
+use Rattle.mesh.specs.Mesh.{Conditions, conditionsSized, links}
 use Rattle.mesh.specs.Pass.{handedOut, ifRefused}
 use Rattle.chain.specs.Search.{everyOf}
 use Rattle.mesh.specs.declared.Answer.{Answer}
 use Rattle.mesh.specs.declared.Answer.the-variants.{Accepted}
 use Rattle.mesh.specs.declared.Counts.{Counts}
-use Rattle.predictor.specs.Boundary.{links}
 use Rattle.corrector.specs.Correction.{Correcting, correcting, correctionAnswer, correctedFluxes}
-use Rattle.coupling.specs.Grid.{Field}
+use Rattle.coupling.specs.Grid.{Field, fieldLent}
 use Rattle.corrector.specs.Promise.{Promise, boundaryOf}
 
 -- the lent fields
@@ -28,31 +28,41 @@ pub record Fields : Type 0 where
 abbrev pub fields : Field → Field → Field → Fields
 fields p k x = record { predicted = p; coefficients = k; correction = x }
 
+abbrev pub fieldsLent : ℕ → Slice Float → ℕ → Slice Float → ℕ → Slice Float → Fields
+fieldsLent a p b k c x = fields (fieldLent a p) (fieldLent b k) (fieldLent c x)
+
 abbrev pub correctingBy : List ℕ → Conditions → Fields → Correcting
 correctingBy adjacency k l =
     correcting adjacency (k .codes) (k .values) (l .predicted .values) (l .coefficients .values) (l .correction .values)
 
--- 2 of the adjacency, the fields and the output, which has so many numbers; 3 of the fields
-abbrev pub correctionSizes : Counts → List ℕ → Fields → ℕ → List Bool
-correctionSizes n adjacency l outs =
-    eqb (length adjacency) (2 * (n .faces))
+-- 2 of the conditions, the adjacency, the fields and the output, which has so many numbers; 3 of the conditions and the fields
+abbrev pub correctionSizes : Counts → List ℕ → Conditions → Fields → ℕ → List Bool
+correctionSizes n adjacency k l outs =
+    conditionsSized (n .faces) (k .codes) (k .values)
+    ∷ eqb (length adjacency) (2 * (n .faces))
     ∷ eqb (length (l .predicted .values)) (n .faces)
     ∷ eqb (length (l .coefficients .values)) (n .faces)
     ∷ eqb (length (l .correction .values)) (n .cells)
     ∷ eqb outs (n .faces)
     ∷ []
 
-abbrev pub fieldNumbers : Counts → Fields → List Bool
-fieldNumbers n l = eqb (l .predicted .number) (n .mesh) ∷ eqb (l .coefficients .number) (n .mesh) ∷ eqb (l .correction .number) (n .mesh) ∷ []
+abbrev pub correctionNumbers : Counts → Conditions → Fields → List Bool
+correctionNumbers n k l =
+    eqb (k .number) (n .mesh)
+    ∷ eqb (l .predicted .number) (n .mesh)
+    ∷ eqb (l .coefficients .number) (n .mesh)
+    ∷ eqb (l .correction .number) (n .mesh)
+    ∷ []
 
 -- 1 to 4, and 6, of what it is lent
 unfoldable pub correctionChecks : Counts → List ℕ → Conditions → Fields → ℕ → Answer
 correctionChecks n adjacency k l outs =
-    orElse
-    (shape (sizesOk n)
-    (everyOf (conditionsSized (n .faces) (k .codes) (k .values)) (correctionSizes n adjacency l outs))
-    (everyOf (eqb (k .number) (n .mesh)) (fieldNumbers n l)))
-    (links (n .cells) adjacency (k .codes))
+    firstOf
+    (pass 1 (sizesOk n)
+    ∷ pass 2 (everyOf (correctionSizes n adjacency k l outs))
+    ∷ pass 3 (everyOf (correctionNumbers n k l))
+    ∷ links (n .cells) adjacency (k .codes)
+    ∷ [])
 
 -- the answer, and what the output holds after the call: untouched where a check refuses, +0.0 where arithmetic does
 pub record CorrectionCall (n : Counts) (adjacency : List ℕ) (k : Conditions) (l : Fields) (old : List Float) (r : Answer) (new : List Float) : Type 0 where

@@ -2,29 +2,27 @@
 // faces, the predicted and the corrected flux, the corrected velocity and the metrics of continuity.
 // A number that stands before a slice is the mesh number of that slice.
 ghost use mathlib.Core.Path.{_≡_};
-ghost use lib.ListN.{length};
-ghost use Prim.Native.Nat.{_+_, _≤_};
+ghost use Prim.Native.Nat.{_≤_};
 ghost use Rattle.mesh.specs.Answers.{at, orElse};
 ghost use Rattle.chain.specs.Chains.{lowestBroken};
-ghost use Rattle.mesh.specs.Checks.{lowestBadFace};
-ghost use Rattle.mesh.specs.Mesh.{conditions};
-ghost use Rattle.mesh.specs.Pass.{handedOut, ifRefused};
+ghost use Rattle.mesh.specs.Checks.{largestCount, lowestBadFace};
+ghost use Rattle.mesh.specs.Lent.{conditionsLent};
 ghost use Rattle.chain.specs.declared.walk.Form.the-variants.{Single};
-ghost use Rattle.numerics.specs.Slices.{slices};
-ghost use Rattle.predictor.specs.Boundary.{links, boundaryChecks, BoundaryCall};
-ghost use Rattle.predictor.specs.Coefficients.{coefficientChecks, coefficientAnswer, coefficients};
-ghost use Rattle.simple.specs.Corrected.{fields, correctionChecks, CorrectionCall, Promised};
-ghost use Rattle.corrector.specs.Diagonal.{diagonalChecks, inverseAnswer, inverses};
-ghost use Rattle.coupling.specs.Grid.{grid, field, gridSized};
+ghost use Rattle.numerics.specs.Slices.{slicesBefore, fromCell};
+ghost use Rattle.predictor.specs.Boundary.{boundaryChecks, BoundaryCall};
+ghost use Rattle.predictor.specs.Coefficients.{coefficientChecks, CoefficientCall};
+ghost use Rattle.simple.specs.Corrected.{fieldsLent, correctionChecks, CorrectionCall, Promised};
+ghost use Rattle.corrector.specs.Diagonal.{diagonalChecks, DiagonalCall};
+ghost use Rattle.coupling.specs.Grid.{gridLent, fieldLent, gridSized};
 ghost use Rattle.corrector.specs.Metrics.{metricsChecks, MetricsCall};
-ghost use Rattle.predictor.specs.Prediction.{lent, sizes, flowSized, predictionChecks, PredictionCall};
-ghost use Rattle.corrector.specs.Velocity.{velocityChecks, velocityAnswer, correctedVelocities};
+ghost use Rattle.predictor.specs.Prediction.{flowFieldsLent, sizes, flowSized, predictionChecks, PredictionCall};
+ghost use Rattle.corrector.specs.Velocity.{velocityChecks, VelocityCall};
 use mesh::Answer;
 use mesh::Counts;
 
 // Check 2, of adjacency, geometry and places.
 fn grid_sized(counts: Counts, adjacency: &[usize], geometry: &[f64], places: &[f64]) -> bool
-    ensures { λ r. ⌜ r ≡ gridSized counts (grid (now (adjacency .entry)) (now (geometry .entry)) (now (places .entry))) ⌝ }
+    ensures { λ r. ⌜ r ≡ gridSized counts (gridLent adjacency geometry places) ⌝ }
 {
     mesh::is_sized(adjacency.len(), 2, counts.faces)
         & mesh::is_sized(geometry.len(), 9, counts.faces)
@@ -44,8 +42,7 @@ fn check_diagonal(counts: Counts, diagonal: &[f64], outs: usize) -> Answer
 
 // One over the momentum diagonal of each cell.
 pub fn momentum_inverse_diagonal(counts: Counts, diagonal: &[f64], out: &mut [f64]) -> Answer
-    ensures { λ r. ⌜ r ≡ orElse (diagonalChecks counts (now (diagonal .entry)) (length (now (out .entry)))) (inverseAnswer (now (diagonal .entry))) ⌝ }
-    ensures { λ r. ⌜ now (out .exit) ≡ ifRefused (diagonalChecks counts (now (diagonal .entry)) (length (now (out .entry)))) (now (out .entry)) (handedOut r (counts .cells) (inverses (now (diagonal .entry)))) ⌝ }
+    ensures call { λ r. ⌜ DiagonalCall counts (now (diagonal .entry)) (now (out .entry)) r (now (out .exit)) ⌝ }
 {
     let a = check_diagonal(counts, diagonal, out.len());
     match a {
@@ -63,7 +60,9 @@ fn check_coefficients(
     responses: &[f64],
     outs: usize,
 ) -> Answer
-    ensures { λ r. ⌜ r ≡ coefficientChecks counts (grid (now (adjacency .entry)) (now (geometry .entry)) (now (places .entry))) (field response (now (responses .entry))) outs ⌝ }
+    ensures checked { λ r.
+        let m = gridLent adjacency geometry places in
+        ⌜ r ≡ coefficientChecks counts m (fieldLent response responses) outs ⌝ }
 {
     let sized = grid_sized(counts, adjacency, geometry, places)
         & (responses.len() == counts.cells)
@@ -85,8 +84,9 @@ pub fn pressure_face_coefficients(
     responses: &[f64],
     out: &mut [f64],
 ) -> Answer
-    ensures { λ r. ⌜ r ≡ orElse (coefficientChecks counts (grid (now (adjacency .entry)) (now (geometry .entry)) (now (places .entry))) (field response (now (responses .entry))) (length (now (out .entry)))) (coefficientAnswer (grid (now (adjacency .entry)) (now (geometry .entry)) (now (places .entry))) (now (responses .entry)) (counts .faces)) ⌝ }
-    ensures { λ r. ⌜ now (out .exit) ≡ ifRefused (coefficientChecks counts (grid (now (adjacency .entry)) (now (geometry .entry)) (now (places .entry))) (field response (now (responses .entry))) (length (now (out .entry)))) (now (out .entry)) (handedOut r (counts .faces) (coefficients (grid (now (adjacency .entry)) (now (geometry .entry)) (now (places .entry))) (now (responses .entry)) (counts .faces))) ⌝ }
+    ensures call { λ r.
+        let m = gridLent adjacency geometry places in
+        ⌜ CoefficientCall counts m (fieldLent response responses) (now (out .entry)) r (now (out .exit)) ⌝ }
 {
     let a = check_coefficients(
         counts,
@@ -109,20 +109,6 @@ pub fn pressure_face_coefficients(
     }
 }
 
-// The checks 4 and 6.
-fn check_links(cells: usize, adjacency: &[usize], codes: &[usize]) -> Answer
-    ensures { λ r. ⌜ r ≡ links cells (now (adjacency .entry)) (now (codes .entry)) ⌝ }
-{
-    let face = chain::lower_of(
-        mesh::lowest_bad_face(cells, adjacency),
-        mesh::lowest_unknown_code(codes),
-    );
-    mesh::or_else(
-        mesh::at(4, face),
-        mesh::at(6, mesh::lowest_bad_link(adjacency, codes)),
-    )
-}
-
 fn check_boundary(
     counts: Counts,
     adjacency: &[usize],
@@ -135,7 +121,10 @@ fn check_boundary(
     responses: &[f64],
     outs: usize,
 ) -> Answer
-    ensures { λ r. ⌜ r ≡ boundaryChecks counts (grid (now (adjacency .entry)) (now (geometry .entry)) (now (places .entry))) (conditions number (now (codes .entry)) (now (values .entry))) (field response (now (responses .entry))) outs ⌝ }
+    ensures checked { λ r.
+        let m = gridLent adjacency geometry places in
+        let k = conditionsLent number codes values in
+        ⌜ r ≡ boundaryChecks counts m k (fieldLent response responses) outs ⌝ }
 {
     let sized = grid_sized(counts, adjacency, geometry, places)
         & mesh::conditions_sized(counts.faces, codes, values)
@@ -144,7 +133,7 @@ fn check_boundary(
     let same = (number == counts.mesh) & (response == counts.mesh);
     let a = mesh::shape(mesh::sizes_ok(counts), sized, same);
     match a {
-        Answer::Accepted => check_links(counts.cells, adjacency, codes),
+        Answer::Accepted => mesh::check_links(counts.cells, adjacency, codes),
         Answer::Refused(k, i) => Answer::Refused(k, i),
     }
 }
@@ -163,7 +152,10 @@ pub fn pressure_face_coefficients_with_boundary(
     responses: &[f64],
     out: &mut [f64],
 ) -> Answer
-    ensures { λ r. ⌜ BoundaryCall counts (grid (now (adjacency .entry)) (now (geometry .entry)) (now (places .entry))) (conditions number (now (codes .entry)) (now (values .entry))) (field response (now (responses .entry))) (now (out .entry)) r (now (out .exit)) ⌝ }
+    ensures call { λ r.
+        let m = gridLent adjacency geometry places in
+        let k = conditionsLent number codes values in
+        ⌜ BoundaryCall counts m k (fieldLent response responses) (now (out .entry)) r (now (out .exit)) ⌝ }
 {
     let a = check_boundary(
         counts,
@@ -213,8 +205,11 @@ fn flow_sized(
 
 // The checks 4 and 5, of a mesh of not too many cells and a stencil.
 fn check_chains(cells: usize, adjacency: &[usize], starts: &[usize], equations: &[usize]) -> Answer
-    requires { ⌜ cells ≤ 65535 ⌝ }
-    ensures { λ r. ⌜ r ≡ orElse (at 4 (lowestBadFace cells (now (adjacency .entry)))) (at 5 (lowestBroken (cells + 2) (now (equations .entry)) Single (now (starts .entry)))) ⌝ }
+    requires { ⌜ cells ≤ largestCount ⌝ }
+    ensures checked { λ r.
+        let face = lowestBadFace cells (now (adjacency .entry)) in
+        let cell = lowestBroken (fromCell cells) (now (equations .entry)) Single (now (starts .entry)) in
+        ⌜ r ≡ orElse (at 4 face) (at 5 cell) ⌝ }
 {
     let face = mesh::at(4, mesh::lowest_bad_face(cells, adjacency));
     let cell = mesh::at(
@@ -246,7 +241,11 @@ fn check_prediction(
     slopes: usize,
     outs: usize,
 ) -> Answer
-    ensures { λ r. ⌜ r ≡ predictionChecks counts (grid (now (adjacency .entry)) (now (geometry .entry)) (now (places .entry))) stencil records (slices (now (starts .entry)) (now (equations .entry)) (now (weights .entry)) (now (inverses .entry))) (lent (field velocity (now (velocities .entry))) (field pressure (now (pressures .entry))) (field response (now (responses .entry))) (field wall (now (walls .entry)))) slopes outs ⌝ }
+    ensures checked { λ r.
+        let m = gridLent adjacency geometry places in
+        let s = slicesBefore starts equations weights inverses in
+        let l = flowFieldsLent velocity velocities pressure pressures response responses wall walls in
+        ⌜ r ≡ predictionChecks counts m stencil records s l slopes outs ⌝ }
 {
     let sized = grid_sized(counts, adjacency, geometry, places)
         & numerics::stencil_sized(
@@ -271,7 +270,7 @@ fn check_prediction(
         & (pressure == counts.mesh)
         & (response == counts.mesh)
         & (wall == counts.mesh);
-    let a = mesh::shape(mesh::sizes_ok(counts) & (records <= 65535), sized, same);
+    let a = mesh::shape(mesh::sizes_ok(counts) & (records <= mesh::LARGEST_COUNT), sized, same);
     match a {
         Answer::Accepted => check_chains(counts.cells, adjacency, starts, equations),
         Answer::Refused(k, i) => Answer::Refused(k, i),
@@ -302,7 +301,12 @@ pub fn rhie_chow_predicted_flux(
     gradient: &mut [f64],
     out: &mut [f64],
 ) -> Answer
-    ensures { λ r. ⌜ PredictionCall counts (grid (now (adjacency .entry)) (now (geometry .entry)) (now (places .entry))) stencil records (slices (now (starts .entry)) (now (equations .entry)) (now (weights .entry)) (now (inverses .entry))) (lent (field velocity (now (velocities .entry))) (field pressure (now (pressures .entry))) (field response (now (responses .entry))) (field wall (now (walls .entry)))) (now (gradient .entry)) (now (out .entry)) r (now (gradient .exit)) (now (out .exit)) ⌝ }
+    ensures call { λ r.
+        let m = gridLent adjacency geometry places in
+        let s = slicesBefore starts equations weights inverses in
+        let l = flowFieldsLent velocity velocities pressure pressures response responses wall walls in
+        let before = now (gradient .entry) in
+        ⌜ PredictionCall counts m stencil records s l before (now (out .entry)) r (now (gradient .exit)) (now (out .exit)) ⌝ }
 {
     let a = check_prediction(
         counts,
@@ -365,7 +369,10 @@ fn check_correction(
     corrections: &[f64],
     outs: usize,
 ) -> Answer
-    ensures { λ r. ⌜ r ≡ correctionChecks counts (now (adjacency .entry)) (conditions number (now (codes .entry)) (now (values .entry))) (fields (field prediction (now (predicted .entry))) (field coefficient (now (coefficients .entry))) (field correction (now (corrections .entry)))) outs ⌝ }
+    ensures checked { λ r.
+        let k = conditionsLent number codes values in
+        let l = fieldsLent prediction predicted coefficient coefficients correction corrections in
+        ⌜ r ≡ correctionChecks counts (now (adjacency .entry)) k l outs ⌝ }
 {
     let sized = mesh::conditions_sized(counts.faces, codes, values)
         & mesh::is_sized(adjacency.len(), 2, counts.faces)
@@ -379,7 +386,7 @@ fn check_correction(
         & (correction == counts.mesh);
     let a = mesh::shape(mesh::sizes_ok(counts), sized, same);
     match a {
-        Answer::Accepted => check_links(counts.cells, adjacency, codes),
+        Answer::Accepted => mesh::check_links(counts.cells, adjacency, codes),
         Answer::Refused(k, i) => Answer::Refused(k, i),
     }
 }
@@ -401,8 +408,14 @@ pub fn correct_face_flux_with_boundary(
     corrections: &[f64],
     out: &mut [f64],
 ) -> Answer
-    ensures { λ r. ⌜ CorrectionCall counts (now (adjacency .entry)) (conditions number (now (codes .entry)) (now (values .entry))) (fields (field prediction (now (predicted .entry))) (field coefficient (now (coefficients .entry))) (field correction (now (corrections .entry)))) (now (out .entry)) r (now (out .exit)) ⌝ }
-    ensures { λ r. ⌜ Promised r (now (adjacency .entry)) (conditions number (now (codes .entry)) (now (values .entry))) (fields (field prediction (now (predicted .entry))) (field coefficient (now (coefficients .entry))) (field correction (now (corrections .entry)))) (now (out .exit)) ⌝ }
+    ensures call { λ r.
+        let k = conditionsLent number codes values in
+        let l = fieldsLent prediction predicted coefficient coefficients correction corrections in
+        ⌜ CorrectionCall counts (now (adjacency .entry)) k l (now (out .entry)) r (now (out .exit)) ⌝ }
+    ensures promise { λ r.
+        let k = conditionsLent number codes values in
+        let l = fieldsLent prediction predicted coefficient coefficients correction corrections in
+        ⌜ Promised r (now (adjacency .entry)) k l (now (out .exit)) ⌝ }
 {
     let a = check_correction(
         counts,
@@ -448,9 +461,8 @@ pub fn correct_face_flux_in_place(
     flux: &mut [f64],
 ) -> Answer
     ensures corrects { λ r.
-        let k = conditions number (now (codes .entry)) (now (values .entry)) in
-        let predicted = field prediction (now (flux .entry)) in
-        let l = fields predicted (field coefficient (now (coefficients .entry))) (field correction (now (corrections .entry))) in
+        let k = conditionsLent number codes values in
+        let l = fieldsLent prediction flux coefficient coefficients correction corrections in
         let call = CorrectionCall counts (now (adjacency .entry)) k l (now (flux .entry)) r (now (flux .exit)) in
         let promise = Promised r (now (adjacency .entry)) k l (now (flux .exit)) in
         ⌜ call × promise ⌝ }
@@ -492,7 +504,8 @@ fn check_velocity(
     gradients: &[f64],
     outs: usize,
 ) -> Answer
-    ensures { λ r. ⌜ r ≡ velocityChecks counts (field velocity (now (velocities .entry))) (field response (now (responses .entry))) (field gradient (now (gradients .entry))) outs ⌝ }
+    ensures checked { λ r.
+        ⌜ r ≡ velocityChecks counts (fieldLent velocity velocities) (fieldLent response responses) (fieldLent gradient gradients) outs ⌝ }
 {
     let sized = mesh::is_sized(velocities.len(), 3, counts.cells)
         & (responses.len() == counts.cells)
@@ -513,8 +526,10 @@ pub fn correct_cell_velocity_from_gradient(
     gradients: &[f64],
     out: &mut [f64],
 ) -> Answer
-    ensures { λ r. ⌜ r ≡ orElse (velocityChecks counts (field velocity (now (velocities .entry))) (field response (now (responses .entry))) (field gradient (now (gradients .entry))) (length (now (out .entry)))) (velocityAnswer (now (velocities .entry)) (now (responses .entry)) (now (gradients .entry))) ⌝ }
-    ensures { λ r. ⌜ now (out .exit) ≡ ifRefused (velocityChecks counts (field velocity (now (velocities .entry))) (field response (now (responses .entry))) (field gradient (now (gradients .entry))) (length (now (out .entry)))) (now (out .entry)) (handedOut r (length (now (out .entry))) (correctedVelocities (now (velocities .entry)) (now (responses .entry)) (now (gradients .entry)))) ⌝ }
+    ensures call { λ r.
+        let v = fieldLent velocity velocities in
+        let g = fieldLent gradient gradients in
+        ⌜ VelocityCall counts v (fieldLent response responses) g (now (out .entry)) r (now (out .exit)) ⌝ }
 {
     let a = check_velocity(
         counts,
@@ -546,7 +561,8 @@ fn check_metrics(
     outs: usize,
     two: usize,
 ) -> Answer
-    ensures { λ r. ⌜ r ≡ metricsChecks counts (now (adjacency .entry)) (now (places .entry)) (field number (now (flux .entry))) outs two ⌝ }
+    ensures checked { λ r.
+        ⌜ r ≡ metricsChecks counts (now (adjacency .entry)) (now (places .entry)) (fieldLent number flux) outs two ⌝ }
 {
     let sized = mesh::is_sized(adjacency.len(), 2, counts.faces)
         & mesh::is_sized(places.len(), 4, counts.cells)
@@ -570,7 +586,11 @@ pub fn continuity_metrics(
     outflow: &mut [f64],
     metrics: &mut [f64],
 ) -> Answer
-    ensures { λ r. ⌜ MetricsCall counts (now (adjacency .entry)) (now (places .entry)) (field number (now (flux .entry))) (now (outflow .entry)) (now (metrics .entry)) r (now (outflow .exit)) (now (metrics .exit)) ⌝ }
+    ensures call { λ r.
+        let a = now (adjacency .entry) in
+        let p = now (places .entry) in
+        let sums = now (outflow .entry) in
+        ⌜ MetricsCall counts a p (fieldLent number flux) sums (now (metrics .entry)) r (now (outflow .exit)) (now (metrics .exit)) ⌝ }
 {
     let a = check_metrics(
         counts,

@@ -2,6 +2,7 @@
 use Rattle.predictor.specs.Boundary.{boundaryChecks}
 use Rattle.mesh.specs.Answers.{orElse}
 use mathlib.Core.Path.{_∙_}
+use Rattle.mesh.proofs.Facts.{shape-first}
 use borrow.Author.Needs.{needs}
 use Rattle.simple.proofs.check_boundary.Statement.{statement}
 use Rattle.simple.proofs.check_boundary.Tie as tie
@@ -36,7 +37,7 @@ returns c =
     let h : tie.After-shape = search in
     let e : tie.After-enum-told = search in
     let l = c .check-links .ensures in
-    rw (← z .sizes-ok .ensures, ← g .grid-sized .ensures, ← k .conditions-sized .ensures, ← h .shape .ensures, e .enum-told .given .1) l
+    rw (shape-first _ _ _ _, ← z .sizes-ok .ensures, ← g .grid-sized .ensures, ← k .conditions-sized .ensures, ← h .shape .ensures, e .enum-told .given .1) l
 
 returns-2 : tie.Need-returns-2
 unfolding boundaryChecks orElse
@@ -45,7 +46,7 @@ returns-2 c =
     let g : tie.After-grid-sized = search in
     let k : tie.After-conditions-sized = search in
     let h : tie.After-shape = search in
-    rw (← z .sizes-ok .ensures, ← g .grid-sized .ensures, ← k .conditions-sized .ensures, ← h .shape .ensures, c .before .a .given .1)
+    rw (shape-first _ _ _ _, ← z .sizes-ok .ensures, ← g .grid-sized .ensures, ← k .conditions-sized .ensures, ← h .shape .ensures, c .before .a .given .1)
 
 pub check-boundary-spec : {M : Type 1} → statement M
 check-boundary-spec =

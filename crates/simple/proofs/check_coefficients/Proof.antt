@@ -2,6 +2,7 @@
 use Rattle.predictor.specs.Coefficients.{coefficientChecks}
 use Rattle.mesh.specs.Answers.{orElse}
 use mathlib.Core.Path.{_∙_}
+use Rattle.mesh.proofs.Facts.{shape-first}
 use borrow.Author.Needs.{needs}
 use Rattle.simple.proofs.check_coefficients.Statement.{statement}
 use Rattle.simple.proofs.check_coefficients.Tie as tie
@@ -35,7 +36,7 @@ returns c =
     let h : tie.After-shape = search in
     let e : tie.After-enum-told = search in
     let l : tie.After-lowest-bad-face = search in
-    rw (← z .sizes-ok .ensures, ← g .grid-sized .ensures, ← h .shape .ensures, e .enum-told .given .1) (c .at .ensures ∙ rw (l .lowest-bad-face .ensures))
+    rw (shape-first _ _ _ _, ← z .sizes-ok .ensures, ← g .grid-sized .ensures, ← h .shape .ensures, e .enum-told .given .1) (c .at .ensures ∙ rw (l .lowest-bad-face .ensures))
 
 returns-2 : tie.Need-returns-2
 unfolding coefficientChecks orElse
@@ -43,7 +44,7 @@ returns-2 c =
     let z : tie.After-sizes-ok = search in
     let g : tie.After-grid-sized = search in
     let h : tie.After-shape = search in
-    rw (← z .sizes-ok .ensures, ← g .grid-sized .ensures, ← h .shape .ensures, c .before .a .given .1)
+    rw (shape-first _ _ _ _, ← z .sizes-ok .ensures, ← g .grid-sized .ensures, ← h .shape .ensures, c .before .a .given .1)
 
 pub check-coefficients-spec : {M : Type 1} → statement M
 check-coefficients-spec =

@@ -1,6 +1,7 @@
 -- `simple::check_correction` meets its contract: the checks of shape, then 4 and 6.
 use Rattle.simple.specs.Corrected.{correctionChecks}
 use Rattle.mesh.specs.Answers.{orElse}
+use Rattle.mesh.proofs.Facts.{shape-first}
 use borrow.Author.Needs.{needs}
 use Rattle.simple.proofs.check_correction.Statement.{statement}
 use Rattle.simple.proofs.check_correction.Tie as tie
@@ -38,7 +39,7 @@ returns c =
     let h : tie.After-shape = search in
     let e : tie.After-enum-told = search in
     let l = c .check-links .ensures in
-    rw (← z .sizes-ok .ensures, ← k .conditions-sized .ensures, ← w .is-sized .ensures, ← h .shape .ensures, e .enum-told .given .1) l
+    rw (shape-first _ _ _ _, ← z .sizes-ok .ensures, ← k .conditions-sized .ensures, ← w .is-sized .ensures, ← h .shape .ensures, e .enum-told .given .1) l
 
 returns-2 : tie.Need-returns-2
 unfolding correctionChecks orElse
@@ -47,7 +48,7 @@ returns-2 c =
     let k : tie.After-conditions-sized = search in
     let h : tie.After-shape = search in
     let w = sizedAt h in
-    rw (← z .sizes-ok .ensures, ← k .conditions-sized .ensures, ← w .is-sized .ensures, ← h .shape .ensures, c .before .a .given .1)
+    rw (shape-first _ _ _ _, ← z .sizes-ok .ensures, ← k .conditions-sized .ensures, ← w .is-sized .ensures, ← h .shape .ensures, c .before .a .given .1)
 
 pub check-correction-spec : {M : Type 1} → statement M
 check-correction-spec =

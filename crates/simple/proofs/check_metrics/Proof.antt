@@ -2,6 +2,7 @@
 use Rattle.corrector.specs.Metrics.{metricsChecks}
 use Rattle.mesh.specs.Answers.{orElse}
 use mathlib.Core.Path.{_∙_}
+use Rattle.mesh.proofs.Facts.{shape-first}
 use borrow.Author.Needs.{needs}
 use Rattle.simple.proofs.check_metrics.Statement.{statement}
 use Rattle.simple.proofs.check_metrics.Tie as tie
@@ -39,7 +40,7 @@ returns c =
     let h : tie.After-shape = search in
     let e : tie.After-enum-told = search in
     let l : tie.After-lowest-bad-face = search in
-    rw (← z .sizes-ok .ensures, ← i .is-sized .ensures, ← j .is-sized2 .ensures, ← h .shape .ensures, e .enum-told .given .1) (c .at .ensures ∙ rw (l .lowest-bad-face .ensures))
+    rw (shape-first _ _ _ _, ← z .sizes-ok .ensures, ← i .is-sized .ensures, ← j .is-sized2 .ensures, ← h .shape .ensures, e .enum-told .given .1) (c .at .ensures ∙ rw (l .lowest-bad-face .ensures))
 
 returns-2 : tie.Need-returns-2
 unfolding metricsChecks orElse
@@ -48,7 +49,7 @@ returns-2 c =
     let i : tie.After-is-sized = search in
     let j : tie.After-is-sized2 = search in
     let h : tie.After-shape = search in
-    rw (← z .sizes-ok .ensures, ← i .is-sized .ensures, ← j .is-sized2 .ensures, ← h .shape .ensures, c .before .a .given .1)
+    rw (shape-first _ _ _ _, ← z .sizes-ok .ensures, ← i .is-sized .ensures, ← j .is-sized2 .ensures, ← h .shape .ensures, c .before .a .given .1)
 
 pub check-metrics-spec : {M : Type 1} → statement M
 check-metrics-spec =

@@ -6,6 +6,7 @@ use Rattle.mesh.specs.Answers.{orElse}
 use lib.Dec.{leb}
 use mathlib.Core.Bool.{_&&_}
 use mathlib.Core.Path.{_≡_, sym, _∙_}
+use Rattle.mesh.proofs.Facts.{shape-both}
 use borrow.Author.Needs.{needs}
 use Rattle.simple.proofs.check_prediction.Statement.{statement}
 use Rattle.simple.proofs.check_prediction.Tie as tie
@@ -61,13 +62,13 @@ unfolding predictionChecks orElse
 returns c =
     let h : tie.After-shape = search in
     let e : tie.After-enum-told = search in
-    rw (← countedAt h .sizes-ok .ensures, ← griddedAt h .grid-sized .ensures, ← stencilAt h .stencil-sized .ensures, ← flowAt h .flow-sized .ensures, ← h .shape .ensures, e .enum-told .given .1) (c .check-chains .ensures)
+    rw (shape-both _ _ _ _ _, ← countedAt h .sizes-ok .ensures, ← griddedAt h .grid-sized .ensures, ← stencilAt h .stencil-sized .ensures, ← flowAt h .flow-sized .ensures, ← h .shape .ensures, e .enum-told .given .1) (c .check-chains .ensures)
 
 returns-2 : tie.Need-returns-2
 unfolding predictionChecks orElse
 returns-2 c =
     let h : tie.After-shape = search in
-    rw (← countedAt h .sizes-ok .ensures, ← griddedAt h .grid-sized .ensures, ← stencilAt h .stencil-sized .ensures, ← flowAt h .flow-sized .ensures, ← h .shape .ensures, c .before .a .given .1)
+    rw (shape-both _ _ _ _ _, ← countedAt h .sizes-ok .ensures, ← griddedAt h .grid-sized .ensures, ← stencilAt h .stencil-sized .ensures, ← flowAt h .flow-sized .ensures, ← h .shape .ensures, c .before .a .given .1)
 
 pub check-prediction-spec : {M : Type 1} → statement M
 check-prediction-spec =

@@ -1,6 +1,7 @@
 -- `simple::check_velocity` meets its contract.
 use Rattle.corrector.specs.Velocity.{velocityChecks}
 use mathlib.Core.Path.{_∙_}
+use Rattle.mesh.specs.Answers.{shape}
 use borrow.Author.Needs.{needs}
 use Rattle.simple.proofs.check_velocity.Statement.{statement}
 use Rattle.simple.proofs.check_velocity.Tie as tie
@@ -21,7 +22,7 @@ shape-requires : tie.Need-shape-requires
 shape-requires c κs = search needs
 
 returns : tie.Need-returns
-unfolding velocityChecks
+unfolding velocityChecks shape
 returns c =
     let z : tie.After-sizes-ok = search in
     let i : tie.After-is-sized = search in

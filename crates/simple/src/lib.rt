@@ -270,7 +270,11 @@ fn check_prediction(
         & (pressure == counts.mesh)
         & (response == counts.mesh)
         & (wall == counts.mesh);
-    let a = mesh::shape(mesh::sizes_ok(counts) & (records <= mesh::LARGEST_COUNT), sized, same);
+    let a = mesh::shape(
+        mesh::sizes_ok(counts) & (records <= mesh::LARGEST_COUNT),
+        sized,
+        same,
+    );
     match a {
         Answer::Accepted => check_chains(counts.cells, adjacency, starts, equations),
         Answer::Refused(k, i) => Answer::Refused(k, i),

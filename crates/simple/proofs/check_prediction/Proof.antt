@@ -1,12 +1,12 @@
 -- `simple::check_prediction` meets its contract: the checks of shape, then 4 and 5.
 use Rattle.predictor.specs.Prediction.{predictionChecks}
 use Rattle.chain.proofs.Truth.{and-true}
-use Rattle.mesh.proofs.Facts.{shape-accepted, small}
+use Rattle.mesh.specs.Checks.{largestCount}
+use Rattle.mesh.proofs.Facts.{shape-accepted, shape-both, small}
 use Rattle.mesh.specs.Answers.{orElse}
 use lib.Dec.{leb}
 use mathlib.Core.Bool.{_&&_}
 use mathlib.Core.Path.{_≡_, sym, _∙_}
-use Rattle.mesh.proofs.Facts.{shape-both}
 use borrow.Author.Needs.{needs}
 use Rattle.simple.proofs.check_prediction.Statement.{statement}
 use Rattle.simple.proofs.check_prediction.Tie as tie
@@ -51,8 +51,8 @@ check-chains-requires c κs =
     let e : tie.After-enum-told = search in
     let s = startAt (griddedAt h) in
     let z = countedAt h in
-    let w = shape-accepted (z .sizes-ok .result && leb (s .args .records) 65535) _ _ (sym (h .shape .ensures) ∙ e .enum-told .given .1) in
-    small (s .args .counts) (sym (z .sizes-ok .ensures) ∙ and-true (z .sizes-ok .result) (leb (s .args .records) 65535) (w .0) .0) .cells
+    let w = shape-accepted (z .sizes-ok .result && leb (s .args .records) largestCount) _ _ (sym (h .shape .ensures) ∙ e .enum-told .given .1) in
+    small (s .args .counts) (sym (z .sizes-ok .ensures) ∙ and-true (z .sizes-ok .result) (leb (s .args .records) largestCount) (w .0) .0) .cells
 
 enum-known-a : tie.Need-enum-known-a
 enum-known-a c = search needs

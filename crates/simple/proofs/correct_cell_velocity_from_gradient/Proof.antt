@@ -36,14 +36,14 @@ returns c =
     let e : tie.After-enum-told = search in
     let w : tie.After-correct-cell-velocity-from-gradient = search in
     let a = sym (k .check-velocity .ensures) ∙ e .enum-told .given .1 in
-    (rw a (w .correct-cell-velocity-from-gradient .ensures .0), rw a (w .correct-cell-velocity-from-gradient .ensures .1))
+    record { answer = rw a (w .correct-cell-velocity-from-gradient .ensures .0); out = rw a (w .correct-cell-velocity-from-gradient .ensures .1) }
 
 returns-2 : tie.Need-returns-2
 unfolding orElse ifRefused
 returns-2 c =
     let k : tie.After-check-velocity = search in
     let a = sym (k .check-velocity .ensures) ∙ c .before .a .given .1 in
-    (rw a, rw a)
+    record { answer = rw a; out = rw a }
 
 pub correct-cell-velocity-from-gradient-spec : {M : Type 1} → statement M
 correct-cell-velocity-from-gradient-spec =

@@ -40,14 +40,14 @@ returns c =
     let w : tie.After-momentum-inverse-diagonal = search in
     let a = sym (k .check-diagonal .ensures) ∙ e .enum-told .given .1 in
     let p = diagonal-passed (s .args .counts) (now (s .args .diagonal)) (length (now (s .args .out))) a in
-    (rw a (w .momentum-inverse-diagonal .ensures .0), rw a (w .momentum-inverse-diagonal .ensures .1 ∙ ap (λ (n : ℕ). handedOut (w .momentum-inverse-diagonal .result) n (inverses (now (s .args .diagonal)))) (p .0)))
+    record { answer = rw a (w .momentum-inverse-diagonal .ensures .0); out = rw a (w .momentum-inverse-diagonal .ensures .1 ∙ ap (λ (n : ℕ). handedOut (w .momentum-inverse-diagonal .result) n (inverses (now (s .args .diagonal)))) (p .0)) }
 
 returns-2 : tie.Need-returns-2
 unfolding orElse ifRefused
 returns-2 c =
     let k : tie.After-check-diagonal = search in
     let a = sym (k .check-diagonal .ensures) ∙ c .before .a .given .1 in
-    (rw a, rw a)
+    record { answer = rw a; out = rw a }
 
 pub momentum-inverse-diagonal-spec : {M : Type 1} → statement M
 momentum-inverse-diagonal-spec =

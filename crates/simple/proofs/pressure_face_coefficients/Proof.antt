@@ -43,17 +43,18 @@ returns c =
     let w : tie.After-pressure-face-coefficients = search in
     let a = sym (k .check-coefficients .ensures) ∙ e .enum-told .given .1 in
     let o = coefficients-passed (s .args .counts) (meshAt s) (field (s .args .response) (now (s .args .responses))) (length (now (s .args .out))) a .1 in
-    let r = now (s .args .responses) in (
-      rw a (w .pressure-face-coefficients .ensures .0 ∙ ap (λ (n : ℕ). coefficientAnswer (meshAt s) r n) o),
-      rw a (w .pressure-face-coefficients .ensures .1 ∙ ap (λ (n : ℕ). handedOut (w .pressure-face-coefficients .result) n (coefficients (meshAt s) r n)) o),
-    )
+    let r = now (s .args .responses) in
+    record {
+      answer = rw a (w .pressure-face-coefficients .ensures .0 ∙ ap (λ (n : ℕ). coefficientAnswer (meshAt s) r n) o);
+      out = rw a (w .pressure-face-coefficients .ensures .1 ∙ ap (λ (n : ℕ). handedOut (w .pressure-face-coefficients .result) n (coefficients (meshAt s) r n)) o);
+    }
 
 returns-2 : tie.Need-returns-2
 unfolding orElse ifRefused
 returns-2 c =
     let k : tie.After-check-coefficients = search in
     let a = sym (k .check-coefficients .ensures) ∙ c .before .a .given .1 in
-    (rw a, rw a)
+    record { answer = rw a; out = rw a }
 
 pub pressure-face-coefficients-spec : {M : Type 1} → statement M
 pressure-face-coefficients-spec =

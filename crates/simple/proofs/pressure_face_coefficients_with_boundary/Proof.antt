@@ -1,9 +1,9 @@
 -- `simple::pressure_face_coefficients_with_boundary` meets its contract: the checks, and after them the work.
 use Rattle.simple.proofs.Checked.{boundary-passed}
 use Rattle.coupling.specs.Grid.{Grid, grid, field}
-use Rattle.predictor.specs.Boundary.{boundsOf, boundaryAnswer, boundaryCoefficients}
+use Rattle.predictor.specs.Boundary.{boundaryAnswer, boundaryCoefficients}
 use Rattle.mesh.specs.Pass.{handedOut, ifRefused}
-use Rattle.mesh.specs.Mesh.{Conditions, conditions}
+use Rattle.mesh.specs.Mesh.{Conditions, conditions, boundsOf}
 use Rattle.mesh.specs.Answers.{orElse}
 use denote.Ref.{now}
 use lib.ListN.{length}

@@ -1,7 +1,7 @@
 -- `simple::rhie_chow_predicted_flux` meets its contract: the checks, and after them the work.
 use Rattle.simple.proofs.Checked.{Predictable, prediction-passed}
 use Rattle.mesh.specs.declared.Answer.the-variants.{Accepted}
-use Rattle.predictor.specs.Prediction.{Flow, flow, Lent, lent, predictionChecks, predictionAnswer, predictedFluxes}
+use Rattle.predictor.specs.Prediction.{Flow, flow, FlowFields, flowFields, predictionChecks, predictionAnswer, predictedFluxes}
 use Rattle.coupling.specs.Grid.{Grid, grid, field}
 use Rattle.numerics.specs.Gradient.{gradients}
 use Rattle.numerics.specs.Slices.{Slices, slices}
@@ -23,8 +23,8 @@ meshAt s = grid (now (s .args .adjacency)) (now (s .args .geometry)) (now (s .ar
 abbrev stencilAt : tie.Start → Slices
 stencilAt s = slices (now (s .args .starts)) (now (s .args .equations)) (now (s .args .weights)) (now (s .args .inverses))
 
-abbrev lentAt : tie.Start → Lent
-lentAt s = lent (field (s .args .velocity) (now (s .args .velocities))) (field (s .args .pressure) (now (s .args .pressures))) (field (s .args .response) (now (s .args .responses))) (field (s .args .wall) (now (s .args .walls)))
+abbrev fieldsAt : tie.Start → FlowFields
+fieldsAt s = flowFields (field (s .args .velocity) (now (s .args .velocities))) (field (s .args .pressure) (now (s .args .pressures))) (field (s .args .response) (now (s .args .responses))) (field (s .args .wall) (now (s .args .walls)))
 
 -- the gradient of so many cells, and the flow with it
 abbrev slopesAt : tie.Start → ℕ → List Float
@@ -33,9 +33,9 @@ slopesAt s n = gradients (stencilAt s) (s .args .records) (now (s .args .pressur
 abbrev flowAt : tie.Start → ℕ → Flow
 flowAt s n = flow (now (s .args .velocities)) (now (s .args .pressures)) (slopesAt s n) (now (s .args .responses))
 
-passed : (s : tie.Start) → predictionChecks (s .args .counts) (meshAt s) (s .args .stencil) (s .args .records) (stencilAt s) (lentAt s) (length (now (s .args .gradient))) (length (now (s .args .out))) ≡ Accepted
-    → Predictable (s .args .counts) (meshAt s) (s .args .records) (stencilAt s) (lentAt s) (length (now (s .args .gradient))) (length (now (s .args .out)))
-passed s h = prediction-passed (s .args .counts) (meshAt s) (s .args .stencil) (s .args .records) (stencilAt s) (lentAt s) (length (now (s .args .gradient))) (length (now (s .args .out))) h
+passed : (s : tie.Start) → predictionChecks (s .args .counts) (meshAt s) (s .args .stencil) (s .args .records) (stencilAt s) (fieldsAt s) (length (now (s .args .gradient))) (length (now (s .args .out))) ≡ Accepted
+    → Predictable (s .args .counts) (meshAt s) (s .args .records) (stencilAt s) (fieldsAt s) (length (now (s .args .gradient))) (length (now (s .args .out)))
+passed s h = prediction-passed (s .args .counts) (meshAt s) (s .args .stencil) (s .args .records) (stencilAt s) (fieldsAt s) (length (now (s .args .gradient))) (length (now (s .args .out))) h
 
 abbrev startAt : tie.After-check-prediction → tie.Start
 startAt c = search

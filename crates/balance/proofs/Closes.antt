@@ -12,14 +12,13 @@ use lib.Ieee.{Float, nan, binary64, fits}
 use lib.Ieee.Scale.{finite}
 use Rattle.binary64.specs.Laws.{NearTotal}
 use Rattle.binary64.specs.Numbers.{zero64}
-use Rattle.binary64.specs.Units.{units, exactTotal}
-use Rattle.binary64.specs.Units as exact
+use Rattle.binary64.specs.Units.{units, total, exactTotal}
 use Rattle.binary64.proofs.Laws.{summation}
-use Rattle.numerics.specs.Outflow.{Faces, facesOf, terms, total, scatter, outflows, Flows, fluxAt}
+use Rattle.numerics.specs.Outflow.{Faces, facesOf, terms, scatter, outflows, Flows, fluxAt}
 use Rattle.numerics.proofs.Scatter.{length-scatter, sums-its-terms}
-use Rattle.balance.specs.Balance.{ends, bound, allowance, NearTerms, NearEnds, Balanced}
+use Rattle.balance.specs.Balance.{oneCellFluxes, bound, allowance, NearTerms, NearWhole, Balanced}
 use Rattle.balance.proofs.Sums.{triangle, apart, sumTo, sum-take}
-use Rattle.balance.proofs.Terms.{same-total, fit-terms, own-finite}
+use Rattle.balance.proofs.Terms.{fit-terms, own-finite}
 use Rattle.balance.proofs.Telescope.{cellSum, telescope}
 
 -- one cell more: the error D of the sum is at most the errors A so far and B of the cell
@@ -28,14 +27,14 @@ more P D A B M N h a b = let u : D * P ≤ (A + B) * P = mul-le-mul-right P h in
 
 -- for any faces whose fluxes are values of binary64, and outflows that are finite sums of their cells' terms
 module _ (m : Faces) (n : ℕ) (outs : List Float) (fit : (f : ℕ) → f < n → T (fits binary64 (m .flux f))) (fine : (c : ℕ) → c < length outs → T (finite (getD outs c nan)))
-    (sums : (c : ℕ) → c < length outs → getD outs c nan ≡ total zero64 (terms m n c)) where
+    (sums : (c : ℕ) → c < length outs → getD outs c nan ≡ total binary64 zero64 (terms m n c)) where
   near-total : (c : ℕ) → c < length outs → NearTotal (terms m n c)
-  near-total c h = summation (terms m n c) (fit-terms m c n fit) (subst (λ (r : Float). T (finite r)) (sums c h ∙ same-total zero64 (terms m n c)) (fine c h))
+  near-total c h = summation (terms m n c) (fit-terms m c n fit) (subst (λ (r : Float). T (finite r)) (sums c h) (fine c h))
 
   -- a cell's outflow is near the exact sum of its terms
   pub near-terms : NearTerms m n outs
   near-terms c h =
-      subst (λ (r : Float). natAbs (units binary64 r -ℤ exactTotal binary64 (terms m n c)) * 2 ^ 53 ≤ bound (terms m n c)) (sym (sums c h ∙ same-total zero64 (terms m n c))) (near-total c h .near)
+      subst (λ (r : Float). natAbs (units binary64 r -ℤ exactTotal binary64 (terms m n c)) * 2 ^ 53 ≤ bound (terms m n c)) (sym (sums c h)) (near-total c h .near)
 
   -- every flux is finite
   pub fluxes-finite : ((f : ℕ) → f < n → m .owner f < length outs) → (f : ℕ) → f < n → T (finite (m .flux f))
@@ -62,7 +61,7 @@ module _ (m : Faces) (n : ℕ) (outs : List Float) (fit : (f : ℕ) → f < n �
         finite-fluxes = fluxes-finite ho;
         cells = near-terms;
         whole =
-            subst (λ (l : List Float). natAbs (exactTotal binary64 l -ℤ exactTotal binary64 (ends m n)) * 2 ^ 53 ≤ allowance m n k) (take-all k outs (le-refl k))
+            subst (λ (l : List Float). natAbs (exactTotal binary64 l -ℤ exactTotal binary64 (oneCellFluxes m n)) * 2 ^ 53 ≤ allowance m n k) (take-all k outs (le-refl k))
             (subst (λ (z : ℤ). natAbs (exactTotal binary64 (take k outs) -ℤ z) * 2 ^ 53 ≤ allowance m n k) (telescope m k n ho hn) (below k (le-refl k)));
       }
 

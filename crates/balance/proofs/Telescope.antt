@@ -8,8 +8,8 @@ use lib.IntN.{ℤ, pos, _+ℤ_, +ℤ-idr, +ℤ-invr}
 use lib.Ieee.{Float, binary64, neg}
 use Rattle.binary64.specs.Units.{units, exactTotal}
 use Rattle.binary64.proofs.Sign.{units-neg}
-use Rattle.numerics.specs.Outflow.{Faces, only, upTo, given}
-use Rattle.balance.specs.Balance.{end}
+use Rattle.numerics.specs.Outflow.{Faces, only, upTo, faceTerms}
+use Rattle.balance.specs.Balance.{oneCellFlux}
 use Rattle.balance.proofs.Sums.{sumTo, sumTo-is, sumTo-add, sumTo-zero, sumTo-one, at, sum-append, sum-only}
 
 -- a term at the cell whose number plus one is n, over all cells: nothing where n is 0
@@ -36,23 +36,23 @@ one-face v (suc n) k h =
 module _ (m : Faces) (cells : ℕ) where
   -- the exact sum of the terms that the faces below n give the cell c
   abbrev pub cellSum : ℕ → ℕ → ℤ
-  cellSum n c = exactTotal binary64 (upTo (given m c) n)
+  cellSum n c = exactTotal binary64 (upTo (faceTerms m c) n)
 
-  face-sum : (f : ℕ) → m .owner f < cells → m .neighbour f ≤ cells → sumTo (λ (c : ℕ). exactTotal binary64 (given m c f)) cells ≡ exactTotal binary64 (end m f)
-  unfolding given end at
+  face-sum : (f : ℕ) → m .owner f < cells → m .neighbour f ≤ cells → sumTo (λ (c : ℕ). exactTotal binary64 (faceTerms m c f)) cells ≡ exactTotal binary64 (oneCellFlux m f)
+  unfolding faceTerms oneCellFlux at
   face-sum f ho hn =
       let v = m .flux f in
-      sumTo-is (λ (c : ℕ). exactTotal binary64 (given m c f)) (λ (c : ℕ). at (units binary64 v) (m .owner f) c +ℤ after (units binary64 (neg v)) (m .neighbour f) c) cells
+      sumTo-is (λ (c : ℕ). exactTotal binary64 (faceTerms m c f)) (λ (c : ℕ). at (units binary64 v) (m .owner f) c +ℤ after (units binary64 (neg v)) (m .neighbour f) c) cells
       (λ c. sum-append (only (eqb (m .owner f) c) v) (only (eqb (m .neighbour f) (suc c)) (neg v)) ∙ ap₂ (λ (x y : ℤ). x +ℤ y) (sum-only (eqb (m .owner f) c) v) (sum-only (eqb (m .neighbour f) (suc c)) (neg v)))
       ∙ sumTo-add (at (units binary64 v) (m .owner f)) (after (units binary64 (neg v)) (m .neighbour f)) cells
       ∙ ap (λ (z : ℤ). z +ℤ sumTo (after (units binary64 (neg v)) (m .neighbour f)) cells) (sumTo-one (units binary64 v) (m .owner f) cells ho)
       ∙ one-face v (m .neighbour f) cells hn
 
-  pub telescope : (n : ℕ) → ((f : ℕ) → f < n → m .owner f < cells) → ((f : ℕ) → f < n → m .neighbour f ≤ cells) → sumTo (cellSum n) cells ≡ exactTotal binary64 (upTo (end m) n)
+  pub telescope : (n : ℕ) → ((f : ℕ) → f < n → m .owner f < cells) → ((f : ℕ) → f < n → m .neighbour f ≤ cells) → sumTo (cellSum n) cells ≡ exactTotal binary64 (upTo (oneCellFlux m) n)
   unfolding upTo exactTotal
   telescope zero ho hn = sumTo-zero cells
   telescope (suc n) ho hn =
-      sumTo-is (cellSum (suc n)) (λ (c : ℕ). cellSum n c +ℤ exactTotal binary64 (given m c n)) cells (λ c. sum-append (upTo (given m c) n) (given m c n))
-      ∙ sumTo-add (cellSum n) (λ (c : ℕ). exactTotal binary64 (given m c n)) cells
+      sumTo-is (cellSum (suc n)) (λ (c : ℕ). cellSum n c +ℤ exactTotal binary64 (faceTerms m c n)) cells (λ c. sum-append (upTo (faceTerms m c) n) (faceTerms m c n))
+      ∙ sumTo-add (cellSum n) (λ (c : ℕ). exactTotal binary64 (faceTerms m c n)) cells
       ∙ ap₂ (λ (x y : ℤ). x +ℤ y) (telescope n (λ f h. ho f (omega arith)) (λ f h. hn f (omega arith))) (face-sum n (ho n (omega arith)) (hn n (omega arith)))
-      ∙ sym (sum-append (upTo (end m) n) (end m n))
+      ∙ sym (sum-append (upTo (oneCellFlux m) n) (oneCellFlux m n))

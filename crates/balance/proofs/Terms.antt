@@ -1,4 +1,4 @@
--- The terms of a cell: they are values of binary64 where the fluxes are, finite where the outflow is, and the outflow is their sum as `binary64` has it. Assumes nothing.
+-- The terms of a cell: they are values of binary64 where the fluxes are, and finite where the outflow is. Assumes nothing.
 use mathlib.Core.Path.{_≡_, refl, sym, ap, _∙_, subst}
 use mathlib.Core.Logic.{⊎-elim}
 use mathlib.Core.List.{List, [], _∷_, _++_}
@@ -11,16 +11,8 @@ use lib.Dec.{T, eqb}
 use lib.Ieee.{Float, binary64, neg, fits}
 use lib.Ieee.Fits.{neg-fits}
 use lib.Ieee.Scale.{finite}
-use Rattle.binary64.specs.Numbers.{_⊕_}
 use Rattle.binary64.specs.Units.{AllFit, AllFinite}
-use Rattle.binary64.specs.Units as exact
-use Rattle.numerics.specs.Outflow.{Faces, only, upTo, given, total}
-
--- the two sums are one
-pub same-total : (s : Float) (xs : List Float) → total s xs ≡ exact.total binary64 s xs
-unfolding total exact.total
-same-total s [] = refl
-same-total s (x ∷ xs) = same-total (s ⊕ x) xs
+use Rattle.numerics.specs.Outflow.{Faces, only, upTo, faceTerms}
 
 -- ---- the terms fit
 fit-append : (xs ys : List Float) → AllFit binary64 xs → AllFit binary64 ys → AllFit binary64 (xs ++ ys)
@@ -31,13 +23,13 @@ fit-only : (b : Bool) (x : Float) → T (fits binary64 x) → AllFit binary64 (o
 fit-only true x t = (t, tt)
 fit-only false x t = tt
 
-pub fit-terms : (m : Faces) (c k : ℕ) → ((f : ℕ) → f < k → T (fits binary64 (m .flux f))) → AllFit binary64 (upTo (given m c) k)
-unfolding upTo given
+pub fit-terms : (m : Faces) (c k : ℕ) → ((f : ℕ) → f < k → T (fits binary64 (m .flux f))) → AllFit binary64 (upTo (faceTerms m c) k)
+unfolding upTo faceTerms
 fit-terms m c zero t = tt
 fit-terms m c (suc k) t =
     let x = m .flux k in
     let s : T (fits binary64 x) = t k (omega arith) in
-    fit-append (upTo (given m c) k) (given m c k) (fit-terms m c k (λ f h. t f (omega arith)))
+    fit-append (upTo (faceTerms m c) k) (faceTerms m c k) (fit-terms m c k (λ f h. t f (omega arith)))
     (fit-append (only (eqb (m .owner k) c) x) (only (eqb (m .neighbour k) (suc c)) (neg x)) (fit-only (eqb (m .owner k) c) x s) (fit-only (eqb (m .neighbour k) (suc c)) (neg x) (neg-fits binary64 x s)))
 
 -- ---- where a cell's terms are finite, so are the fluxes of the faces that it owns
@@ -52,8 +44,8 @@ finite-right (x ∷ xs) ys p = finite-right xs ys (p .1)
 only-finite : (b : Bool) (x : Float) → b ≡ true → AllFinite (only b x) → T (finite x)
 only-finite b x e p = subst (λ (t : Bool). AllFinite (only t x)) e p .0
 
-pub own-finite : (m : Faces) (c k : ℕ) → AllFinite (upTo (given m c) k) → (f : ℕ) → f < k → m .owner f ≡ c → T (finite (m .flux f))
-unfolding upTo given
+pub own-finite : (m : Faces) (c k : ℕ) → AllFinite (upTo (faceTerms m c) k) → (f : ℕ) → f < k → m .owner f ≡ c → T (finite (m .flux f))
+unfolding upTo faceTerms
 own-finite m c zero p f h e = absurd (omega arith)
 own-finite m c (suc k) p f h e =
     let own = only (eqb (m .owner k) c) (m .flux k) in
@@ -61,6 +53,6 @@ own-finite m c (suc k) p f h e =
     ⊎-elim
     (λ (q : f ≡ k).
     subst (λ (j : ℕ). T (finite (m .flux j))) (sym q)
-    (only-finite (eqb (m .owner k) c) (m .flux k) (eq-eqb (m .owner k) c (ap (m .owner) (sym q) ∙ e)) (finite-left own next (finite-right (upTo (given m c) k) (own ++ next) p))))
-    (λ (l : f < k). own-finite m c k (finite-left (upTo (given m c) k) (own ++ next) p) f l e)
+    (only-finite (eqb (m .owner k) c) (m .flux k) (eq-eqb (m .owner k) c (ap (m .owner) (sym q) ∙ e)) (finite-left own next (finite-right (upTo (faceTerms m c) k) (own ++ next) p))))
+    (λ (l : f < k). own-finite m c k (finite-left (upTo (faceTerms m c) k) (own ++ next) p) f l e)
     (eq-or-lt-of-le (le-of-suc-le-suc h))

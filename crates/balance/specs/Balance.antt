@@ -10,11 +10,11 @@ use Rattle.binary64.specs.Units.{units, exactTotal, totalCount}
 use Rattle.numerics.specs.Outflow.{Faces, only, upTo, terms}
 
 -- the flux of the face f, where it has one cell; those of all such faces below n
-unfoldable pub end : Faces → ℕ → List Float
-end m f = only (eqb (m .neighbour f) 0) (m .flux f)
+unfoldable pub oneCellFlux : Faces → ℕ → List Float
+oneCellFlux m f = only (eqb (m .neighbour f) 0) (m .flux f)
 
-abbrev pub ends : Faces → ℕ → List Float
-ends m n = upTo (end m) n
+abbrev pub oneCellFluxes : Faces → ℕ → List Float
+oneCellFluxes m n = upTo (oneCellFlux m) n
 
 -- the rounding bound of a cell with these terms, times 2 ^ 53: the number of terms less one (none counts 0) times the sum of their magnitudes
 abbrev pub bound : List Float → ℕ
@@ -31,11 +31,11 @@ NearTerms m n outflow =
     (c : ℕ) → c < length outflow → natAbs (units binary64 (getD outflow c nan) -ℤ exactTotal binary64 (terms m n c)) * 2 ^ 53 ≤ bound (terms m n c)
 
 -- and all outflows together are as near to the exact flux through the faces with one cell
-abbrev pub NearEnds : Faces → ℕ → List Float → Type 0
-NearEnds m n outflow = natAbs (exactTotal binary64 outflow -ℤ exactTotal binary64 (ends m n)) * 2 ^ 53 ≤ allowance m n (length outflow)
+abbrev pub NearWhole : Faces → ℕ → List Float → Type 0
+NearWhole m n outflow = natAbs (exactTotal binary64 outflow -ℤ exactTotal binary64 (oneCellFluxes m n)) * 2 ^ 53 ≤ allowance m n (length outflow)
 
 -- the balance of the first n faces: no flux is left out of an exact sum for being infinite or no number
 pub record Balanced (m : Faces) (n : ℕ) (outflow : List Float) : Type 0 where
   pub finite-fluxes : (f : ℕ) → f < n → T (finite (m .flux f))
   pub cells : NearTerms m n outflow
-  pub whole : NearEnds m n outflow
+  pub whole : NearWhole m n outflow

@@ -1,8 +1,9 @@
 -- IEEE 754's square root over the values of `lib.Ieee`: the value nearest to the exact root. Definitions only.
 use Prim.Native.Nat.{ℕ, zero, suc, _+_, _-_, _*_, _/_, _^_, _<_, compare}
 use mathlib.Core.Bool.{true, false, cond}
-use lib.Dec.{leb}
-use lib.Ieee.{Float, nan, inf, fin, Format, binary64, prec, low, up, down, size, nearest, units, ofBits, toBits}
+use lib.Dec.{T, leb}
+use lib.Ieee.{Float, nan, inf, fin, Format, binary64, prec, low, up, down, size, nearest, units, fits, ofBits, toBits}
+use Rattle.binary64.specs.Numbers.{isUsable}
 use Rattle.binary64.specs.Units.{count}
 
 -- The whole part of the square root of an n below 4 ^ d: twice the root of n / 4, or one more where the square of that is still at most n.
@@ -33,10 +34,11 @@ rootIn f (fin false (suc m) e) = nearestRoot f (suc m * up e * 2 ^ low f * 2 ^ l
 abbrev pub root : Float → Float
 root = rootIn binary64
 
--- r is the value nearest to the root of x, for x and r finite and above zero: with l and h the middles between r and the values next below and next above it,
--- l * l < x < h * h. The values next to r have the bit patterns next to r's. 2 * l and 2 * h are counted in smallest values, and 4 * x in squares of the smallest value.
+-- r is the value of f nearest to the root of x, for an x that is finite and above zero: r is finite and above zero too, and with l and h the middles
+-- between r and the values next below and next above it, l * l < x < h * h. The values next to r have the bit patterns next to r's.
+-- 2 * l and 2 * h are counted in smallest values, and 4 * x in squares of the smallest value.
 unfoldable pub Nearest : Format → Float → Float → Type 0
 Nearest f x r =
     let l = count f (ofBits f (toBits f r - 1)) + count f r in
     let h = count f r + count f (ofBits f (toBits f r + 1)) in
-    (l * l < 4 * (count f x * 2 ^ low f)) × (4 * (count f x * 2 ^ low f) < h * h)
+    T (fits f r) × T (isUsable r) × (l * l < 4 * (count f x * 2 ^ low f)) × (4 * (count f x * 2 ^ low f) < h * h)

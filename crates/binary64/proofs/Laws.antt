@@ -10,8 +10,9 @@ use lib.Ieee.{Float, Format, binary64, prec, add, ofBits, fits}
 use lib.Ieee.Scale.{finite}
 use Rattle.binary64.specs.Root.{rootIn}
 use Rattle.binary64.specs.Units.{count, units, total, exactTotal, totalCount, AllFit}
-use Rattle.binary64.specs.Laws.{Addition, Summation, OppositeSums, OppositeDifferences, SwappedDifferences, NegatedProducts, OppositeProducts, FitsKept, RootIsNearest, RootsOfSquares}
+use Rattle.binary64.specs.Laws.{CountIsExact, Addition, Summation, OppositeSums, OppositeDifferences, SwappedDifferences, NegatedProducts, OppositeProducts, FitsKept, RootIsNearest, RootsOfSquares}
 use Rattle.binary64.specs.Examples.{Roots}
+use Rattle.binary64.proofs.Value.{whole}
 use Rattle.binary64.proofs.Addition.{add-law}
 use Rattle.binary64.proofs.Summation.{zero, total-finite, total-law}
 use Rattle.binary64.proofs.Integers.{off-is, both-is, error-is}
@@ -39,6 +40,9 @@ near-total : (f : Format) (xs : List Float) → AllFit f xs → T (finite (total
 near-total f xs A t = le-trans (le-of-eq (ap (λ (d : ℕ). d * 2 ^ prec f) (error-is f (total f (zero f) xs) xs))) (total-law f xs A t)
 
 -- ---- in binary64
+pub count-is-exact : CountIsExact
+count-is-exact s m e F = sym (whole binary64 s m e F .0)
+
 pub addition : Addition
 addition x y F G t = record { relative = relative binary64 x y F G t; left = left binary64 x y F G t; right = right binary64 x y F G t }
 

@@ -1,15 +1,22 @@
 -- What is proved of binary64 in proofs/Laws.antt: the statements alone. One unit is 2 ^ -1074.
 use mathlib.Core.Path.{_≡_}
+use mathlib.Core.Bool.{Bool}
 use mathlib.Core.List.{List}
 use Prim.Native.Nat.{ℕ, _-_, _*_, _^_, _≤_, _<_}
 use lib.Dec.{T}
 use lib.ListN.{length}
-use lib.IntN.{natAbs, _+ℤ_, _-ℤ_}
-use lib.Ieee.{Float, binary64, neg, add, sub, mul, fits, ofBits}
+use lib.IntN.{ℤ, natAbs, _+ℤ_, _-ℤ_}
+use lib.Ieee.{Float, fin, binary64, up, down, neg, add, sub, mul, fits, ofBits}
 use lib.Ieee.Scale.{finite}
 use Rattle.binary64.specs.Numbers.{zero64, isUsable, magnitude, larger}
 use Rattle.binary64.specs.Root.{root, Nearest}
 use Rattle.binary64.specs.Units.{count, units, total, exactTotal, totalCount, AllFit, AllFinite, Alike, Opposite}
+
+-- ---- a value in units
+
+-- `count` drops nothing: m * 2 ^ e, which is m * up e / down e, is a whole number of units where it fits
+abbrev pub CountIsExact : Type 0
+CountIsExact = (s : Bool) (m : ℕ) (e : ℤ) → T (fits binary64 (fin s m e)) → count binary64 (fin s m e) * down e ≡ m * up e * 2 ^ 1074
 
 -- ---- one addition
 

@@ -1,17 +1,15 @@
--- What is proved of binary64: each law of specs/Laws.antt, and document 01's roots. Assumes nothing.
-use mathlib.Core.Path.{_≡_, refl, sym, ap, _∙_}
+-- What is proved of binary64: each law of specs/Laws.antt. Assumes nothing.
+use mathlib.Core.Path.{sym, ap}
 use mathlib.Core.List.{List}
 use Prim.Native.Nat.{ℕ, _-_, _*_, _^_, _≤_}
 use native.Mathlib.Nat.{le-trans, le-of-eq}
 use lib.Dec.{T}
 use lib.ListN.{length}
 use lib.IntN.{natAbs, _+ℤ_, _-ℤ_}
-use lib.Ieee.{Float, Format, binary64, prec, add, ofBits, fits}
+use lib.Ieee.{Float, Format, binary64, prec, add, fits}
 use lib.Ieee.Scale.{finite}
-use Rattle.binary64.specs.Root.{rootIn}
 use Rattle.binary64.specs.Units.{count, signedCount, total, exactTotal, totalCount, AllFit}
 use Rattle.binary64.specs.Laws.{CountIsExact, Addition, Summation, OppositeSums, OppositeDifferences, SwappedDifferences, NegatedProducts, OppositeProducts, FitsKept, RootIsNearest, RootsOfSquares}
-use Rattle.binary64.specs.Examples.{Roots}
 use Rattle.binary64.proofs.Value.{whole}
 use Rattle.binary64.proofs.Addition.{add-law}
 use Rattle.binary64.proofs.Summation.{zero, total-finite, total-law}
@@ -72,7 +70,3 @@ nearest-root = root-is-nearest
 
 pub roots-of-squares : RootsOfSquares
 roots-of-squares b lo hi = returned-bits b lo hi .back
-
-pub roots : Roots
-unfolding rootIn ofBits
-roots = (refl, (refl, (refl, (refl, (refl, (refl, tt))))))

@@ -16,7 +16,8 @@ use lib.Ieee.Exact.{HasValue, odd-sign}
 use lib.Dec.{T, lit≤}
 use native.Mathlib.Decide.{decLe}
 use Rattle.binary64.specs.Numbers.{isUsable}
-use Rattle.binary64.specs.Root.{wholeRoot, nearestRoot, root, rootIn, Nearest}
+use Rattle.lines.specs.Lines.{wholeRoot}
+use Rattle.binary64.specs.Root.{nearestRoot, root, rootIn, Nearest}
 use Rattle.binary64.specs.Significand.{Near}
 use Rattle.binary64.specs.Units.{count}
 use Rattle.binary64.proofs.Value.{count-of}

@@ -43,7 +43,7 @@ nearest-root-fits f w =
     made-fits f (nearest q o) k (le-trans (nearest-le q o) (kept-lt (prec f) s))
 
 pub root-fits : (f : Format) (x : Float) → T (fits f x) → T (fits f (rootIn f x))
-unfolding rootIn
+unfolding rootIn fits
 root-fits f nan F = nan-fits f
 root-fits f (inf s) F = cond-fits f s nan (inf s) (nan-fits f) (inf-fits f s)
 root-fits f (fin s zero e) F = F

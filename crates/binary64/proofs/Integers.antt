@@ -1,4 +1,4 @@
--- `units` as the difference of `hi` and `lo`: what is proved of distances of naturals, said of integers. Assumes nothing.
+-- `signedCount` as the difference of `hi` and `lo`: what is proved of distances of naturals, said of integers. Assumes nothing.
 use mathlib.Core.Path.{_≡_, refl, sym, ap, ap₂, _∙_}
 use mathlib.Core.List.{List, [], _∷_}
 use Prim.Native.Nat.{ℕ, zero, suc, _+_, _-_, _≤_, _<_}
@@ -7,7 +7,7 @@ use mathlib.Core.Bool.{Bool, true, false, not, cond}
 use lib.IntN.{ℤ, pos, negsuc, negℤ, natAbs, subℕ, _+ℤ_, _-ℤ_, +ℤ-assoc, +ℤ-comm, +ℤ-idr, +ℤ-idl, negℤ-+ℤ, negℤ-negℤ}
 use lib.Dec.{T, ltb, ltb→lt, nltb→le}
 use lib.Ieee.{Float, nan, inf, fin, Format}
-use Rattle.binary64.specs.Units.{count, units, exactTotal}
+use Rattle.binary64.specs.Units.{count, signedCount, exactTotal}
 use Rattle.binary64.proofs.Parts.{hi, lo, gap, his, los}
 
 -- ---- a - b of two naturals
@@ -55,22 +55,22 @@ sub-neg a b =
     ∙ +ℤ-comm (negℤ (pos a)) (pos b)
     ∙ sym (sub-is b a)
 
--- ---- `units`
+-- ---- `signedCount`
 pub neg-is : (n : ℕ) → negℤ (pos n) ≡ subℕ 0 n
 neg-is n = sym (+ℤ-idl (negℤ (pos n))) ∙ sym (sub-is 0 n)
 
 pub pos-is : (n : ℕ) → pos n ≡ subℕ n 0
 pos-is n = sym (+ℤ-idr (pos n)) ∙ sym (sub-is n 0)
 
-pub units-is : (f : Format) (x : Float) → units f x ≡ subℕ (hi f x) (lo f x)
-unfolding units hi lo
-units-is f nan = refl
-units-is f (inf s) = refl
-units-is f (fin true m e) = neg-is (count f (fin true m e))
-units-is f (fin false m e) = pos-is (count f (fin false m e))
+pub signedCount-is : (f : Format) (x : Float) → signedCount f x ≡ subℕ (hi f x) (lo f x)
+unfolding signedCount hi lo
+signedCount-is f nan = refl
+signedCount-is f (inf s) = refl
+signedCount-is f (fin true m e) = neg-is (count f (fin true m e))
+signedCount-is f (fin false m e) = pos-is (count f (fin false m e))
 
-pub abs-is : (f : Format) (x : Float) → natAbs (units f x) ≡ count f x
-unfolding units count
+pub abs-is : (f : Format) (x : Float) → natAbs (signedCount f x) ≡ count f x
+unfolding signedCount count
 abs-is f nan = refl
 abs-is f (inf s) = refl
 abs-is f (fin true m e) = flip (count f (fin true m e))
@@ -83,23 +83,23 @@ abs-is f (fin false m e) = refl
 pub sum-is : (f : Format) (xs : List Float) → exactTotal f xs ≡ subℕ (his f xs) (los f xs)
 unfolding exactTotal his los
 sum-is f [] = refl
-sum-is f (x ∷ xs) = ap₂ (λ (a b : ℤ). a +ℤ b) (units-is f x) (sum-is f xs) ∙ sub-add (hi f x) (lo f x) (his f xs) (los f xs)
+sum-is f (x ∷ xs) = ap₂ (λ (a b : ℤ). a +ℤ b) (signedCount-is f x) (sum-is f xs) ∙ sub-add (hi f x) (lo f x) (his f xs) (los f xs)
 
 -- the distance of two differences
 pub apart-is : (a b c d : ℕ) → natAbs (subℕ a b -ℤ subℕ c d) ≡ gap (a + d) (b + c)
 apart-is a b c d = ap natAbs (ap (λ (z : ℤ). subℕ a b +ℤ z) (sub-neg c d) ∙ sub-add a b d c) ∙ abs-sub (a + d) (b + c)
 
-pub off-is : (f : Format) (r x y : Float) → natAbs (units f r -ℤ (units f x +ℤ units f y)) ≡ gap (hi f r + lo f x + lo f y) (lo f r + hi f x + hi f y)
+pub off-is : (f : Format) (r x y : Float) → natAbs (signedCount f r -ℤ (signedCount f x +ℤ signedCount f y)) ≡ gap (hi f r + lo f x + lo f y) (lo f r + hi f x + hi f y)
 off-is f r x y =
-    ap natAbs (ap₂ (λ (p q : ℤ). p -ℤ q) (units-is f r) (ap₂ (λ (p q : ℤ). p +ℤ q) (units-is f x) (units-is f y) ∙ sub-add (hi f x) (lo f x) (hi f y) (lo f y)))
+    ap natAbs (ap₂ (λ (p q : ℤ). p -ℤ q) (signedCount-is f r) (ap₂ (λ (p q : ℤ). p +ℤ q) (signedCount-is f x) (signedCount-is f y) ∙ sub-add (hi f x) (lo f x) (hi f y) (lo f y)))
     ∙ apart-is (hi f r) (lo f r) (hi f x + hi f y) (lo f x + lo f y)
     ∙ grouped (hi f r) (lo f r) (hi f x) (lo f x) (hi f y) (lo f y)
   where
     grouped : (a b c d e g : ℕ) → gap (a + (d + g)) (b + (c + e)) ≡ gap (a + d + g) (b + c + e)
     grouped a b c d e g = omega arith
 
-pub both-is : (f : Format) (x y : Float) → natAbs (units f x +ℤ units f y) ≡ gap (hi f x + hi f y) (lo f x + lo f y)
-both-is f x y = ap natAbs (ap₂ (λ (p q : ℤ). p +ℤ q) (units-is f x) (units-is f y) ∙ sub-add (hi f x) (lo f x) (hi f y) (lo f y)) ∙ abs-sub (hi f x + hi f y) (lo f x + lo f y)
+pub both-is : (f : Format) (x y : Float) → natAbs (signedCount f x +ℤ signedCount f y) ≡ gap (hi f x + hi f y) (lo f x + lo f y)
+both-is f x y = ap natAbs (ap₂ (λ (p q : ℤ). p +ℤ q) (signedCount-is f x) (signedCount-is f y) ∙ sub-add (hi f x) (lo f x) (hi f y) (lo f y)) ∙ abs-sub (hi f x + hi f y) (lo f x + lo f y)
 
-pub error-is : (f : Format) (r : Float) (xs : List Float) → natAbs (units f r -ℤ exactTotal f xs) ≡ gap (hi f r + los f xs) (lo f r + his f xs)
-error-is f r xs = ap natAbs (ap₂ (λ (p q : ℤ). p -ℤ q) (units-is f r) (sum-is f xs)) ∙ apart-is (hi f r) (lo f r) (his f xs) (los f xs)
+pub error-is : (f : Format) (r : Float) (xs : List Float) → natAbs (signedCount f r -ℤ exactTotal f xs) ≡ gap (hi f r + los f xs) (lo f r + his f xs)
+error-is f r xs = ap natAbs (ap₂ (λ (p q : ℤ). p -ℤ q) (signedCount-is f r) (sum-is f xs)) ∙ apart-is (hi f r) (lo f r) (his f xs) (los f xs)

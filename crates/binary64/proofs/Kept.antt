@@ -8,7 +8,8 @@ use lib.Dec.{T, ltb, ltb→lt}
 use lib.Ieee.{Float, nan, inf, fin, Format, prec, emax, low, up, down, size, nearest, odd, units, lt, isNan, fits}
 use lib.Ieee.Fits.{odd-fits, nearest-le, kept-lt, cond-fits, nan-fits, inf-fits}
 use Rattle.binary64.specs.Numbers.{magnitude, larger}
-use Rattle.binary64.specs.Root.{wholeRoot, nearestRoot, rootIn}
+use Rattle.lines.specs.Lines.{wholeRoot}
+use Rattle.binary64.specs.Root.{nearestRoot, rootIn}
 
 pub magnitude-fits : (f : Format) (x : Float) → T (fits f x) → T (fits f (magnitude x))
 unfolding magnitude fits
@@ -42,7 +43,7 @@ nearest-root-fits f w =
     made-fits f (nearest q o) k (le-trans (nearest-le q o) (kept-lt (prec f) s))
 
 pub root-fits : (f : Format) (x : Float) → T (fits f x) → T (fits f (rootIn f x))
-unfolding rootIn
+unfolding rootIn fits
 root-fits f nan F = nan-fits f
 root-fits f (inf s) F = cond-fits f s nan (inf s) (nan-fits f) (inf-fits f s)
 root-fits f (fin s zero e) F = F

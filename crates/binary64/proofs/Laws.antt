@@ -1,17 +1,16 @@
--- What is proved of binary64: each law of specs/Laws.antt, and document 01's roots. Assumes nothing.
-use mathlib.Core.Path.{_≡_, refl, sym, ap, _∙_}
+-- What is proved of binary64: each law of specs/Laws.antt. Assumes nothing.
+use mathlib.Core.Path.{sym, ap}
 use mathlib.Core.List.{List}
 use Prim.Native.Nat.{ℕ, _-_, _*_, _^_, _≤_}
 use native.Mathlib.Nat.{le-trans, le-of-eq}
 use lib.Dec.{T}
 use lib.ListN.{length}
 use lib.IntN.{natAbs, _+ℤ_, _-ℤ_}
-use lib.Ieee.{Float, Format, binary64, prec, add, ofBits, fits}
+use lib.Ieee.{Float, Format, binary64, prec, add, fits}
 use lib.Ieee.Scale.{finite}
-use Rattle.binary64.specs.Root.{rootIn}
-use Rattle.binary64.specs.Units.{count, units, total, exactTotal, totalCount, AllFit}
-use Rattle.binary64.specs.Laws.{Addition, Summation, OppositeSums, OppositeDifferences, SwappedDifferences, NegatedProducts, OppositeProducts, FitsKept, RootIsNearest, RootsOfSquares}
-use Rattle.binary64.specs.Examples.{Roots}
+use Rattle.binary64.specs.Units.{count, signedCount, total, exactTotal, totalCount, AllFit}
+use Rattle.binary64.specs.Laws.{CountIsExact, Addition, Summation, OppositeSums, OppositeDifferences, SwappedDifferences, NegatedProducts, OppositeProducts, FitsKept, RootIsNearest, RootsOfSquares}
+use Rattle.binary64.proofs.Value.{whole}
 use Rattle.binary64.proofs.Addition.{add-law}
 use Rattle.binary64.proofs.Summation.{zero, total-finite, total-law}
 use Rattle.binary64.proofs.Integers.{off-is, both-is, error-is}
@@ -24,9 +23,9 @@ use Rattle.binary64.proofs.root.Returned.{returned-bits}
 -- ---- in either format, from the law on two naturals
 module _ (f : Format) (x y : Float) (F : T (fits f x)) (G : T (fits f y)) (t : T (finite (add f x y))) where
   abbrev error : ℕ
-  error = natAbs (units f (add f x y) -ℤ (units f x +ℤ units f y))
+  error = natAbs (signedCount f (add f x y) -ℤ (signedCount f x +ℤ signedCount f y))
 
-  relative : error * 2 ^ prec f ≤ natAbs (units f x +ℤ units f y)
+  relative : error * 2 ^ prec f ≤ natAbs (signedCount f x +ℤ signedCount f y)
   relative = le-trans (le-of-eq (ap (λ (d : ℕ). d * 2 ^ prec f) (off-is f (add f x y) x y))) (le-trans (add-law f x y F G t .0) (le-of-eq (sym (both-is f x y))))
 
   left : error ≤ count f x
@@ -35,10 +34,13 @@ module _ (f : Format) (x y : Float) (F : T (fits f x)) (G : T (fits f y)) (t : T
   right : error ≤ count f y
   right = le-trans (le-of-eq (off-is f (add f x y) x y)) (add-law f x y F G t .2)
 
-near-total : (f : Format) (xs : List Float) → AllFit f xs → T (finite (total f (zero f) xs)) → natAbs (units f (total f (zero f) xs) -ℤ exactTotal f xs) * 2 ^ prec f ≤ (length xs - 1) * totalCount f xs
+near-total : (f : Format) (xs : List Float) → AllFit f xs → T (finite (total f (zero f) xs)) → natAbs (signedCount f (total f (zero f) xs) -ℤ exactTotal f xs) * 2 ^ prec f ≤ (length xs - 1) * totalCount f xs
 near-total f xs A t = le-trans (le-of-eq (ap (λ (d : ℕ). d * 2 ^ prec f) (error-is f (total f (zero f) xs) xs))) (total-law f xs A t)
 
 -- ---- in binary64
+pub count-is-exact : CountIsExact
+count-is-exact s m e F = sym (whole binary64 s m e F .0)
+
 pub addition : Addition
 addition x y F G t = record { relative = relative binary64 x y F G t; left = left binary64 x y F G t; right = right binary64 x y F G t }
 
@@ -68,7 +70,3 @@ nearest-root = root-is-nearest
 
 pub roots-of-squares : RootsOfSquares
 roots-of-squares b lo hi = returned-bits b lo hi .back
-
-pub roots : Roots
-unfolding rootIn ofBits
-roots = (refl, (refl, (refl, (refl, (refl, (refl, tt))))))

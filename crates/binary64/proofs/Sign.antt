@@ -13,7 +13,7 @@ use lib.Ieee.Fits.{round-is, round-fits, down-pos, up-pos}
 use lib.Ieee.Exact.{HasValue, round-exact}
 use lib.Ieee.Scale.{finite}
 use lib.Ieee.Nearest.{closest}
-use Rattle.binary64.specs.Units.{count, units, Zero, Alike}
+use Rattle.binary64.specs.Units.{count, signedCount, Zero, Alike}
 
 -- ---- `round`
 odd-neg : (d : ℕ) (s : Bool) (q k l : ℕ) → odd d (not s) q k l ≡ neg (odd d s q k l)
@@ -154,28 +154,28 @@ zero-count : (f : Format) (s : Bool) (m : ℕ) (e : ℤ) → m ≡ 0 → count f
 unfolding count
 zero-count f s m e z = ap (λ (x : ℕ). x * up e * 2 ^ low f / down e) z ∙ ap (λ (x : ℕ). x * 2 ^ low f / down e) (zero-mul (up e)) ∙ ap (λ (x : ℕ). x / down e) (zero-mul (2 ^ low f)) ∙ zero-div (down e)
 
-zero-units : (f : Format) (x : Float) → Zero x → units f x ≡ pos 0
-unfolding units
-zero-units f x z = ap (λ (y : Float). units f y) (z .1) ∙ of (z .0)
+zero-signedCount : (f : Format) (x : Float) → Zero x → signedCount f x ≡ pos 0
+unfolding signedCount
+zero-signedCount f x z = ap (λ (y : Float). signedCount f y) (z .1) ∙ of (z .0)
   where
-    of : (s : Bool) → units f (fin s 0 (pos 0)) ≡ pos 0
+    of : (s : Bool) → signedCount f (fin s 0 (pos 0)) ≡ pos 0
     of true = ap (λ (n : ℕ). negℤ (pos n)) (zero-count f true 0 (pos 0) refl)
     of false = ap pos (zero-count f false 0 (pos 0) refl)
 
 zero-finite : (x : Float) → Zero x → finite x ≡ true
 zero-finite x z = ap finite (z .1)
 
-pub alike-units : (f : Format) (u v : Float) → Alike u v → units f u ≡ units f v
-alike-units f u v (inl e) = ap (λ (x : Float). units f x) e
-alike-units f u v (inr z) = zero-units f u (z .0) ∙ sym (zero-units f v (z .1))
+pub alike-signedCount : (f : Format) (u v : Float) → Alike u v → signedCount f u ≡ signedCount f v
+alike-signedCount f u v (inl e) = ap (λ (x : Float). signedCount f x) e
+alike-signedCount f u v (inr z) = zero-signedCount f u (z .0) ∙ sym (zero-signedCount f v (z .1))
 
 pub alike-finite : (u v : Float) → Alike u v → finite u ≡ finite v
 alike-finite u v (inl e) = ap finite e
 alike-finite u v (inr z) = zero-finite u (z .0) ∙ sym (zero-finite v (z .1))
 
-pub units-neg : (f : Format) (x : Float) → units f (neg x) ≡ negℤ (units f x)
-unfolding units neg count
-units-neg f nan = refl
-units-neg f (inf s) = refl
-units-neg f (fin true m e) = sym (negℤ-negℤ (pos (count f (fin true m e))))
-units-neg f (fin false m e) = refl
+pub signedCount-neg : (f : Format) (x : Float) → signedCount f (neg x) ≡ negℤ (signedCount f x)
+unfolding signedCount neg count
+signedCount-neg f nan = refl
+signedCount-neg f (inf s) = refl
+signedCount-neg f (fin true m e) = sym (negℤ-negℤ (pos (count f (fin true m e))))
+signedCount-neg f (fin false m e) = refl

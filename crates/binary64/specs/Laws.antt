@@ -1,25 +1,32 @@
 -- What is proved of binary64 in proofs/Laws.antt: the statements alone. One unit is 2 ^ -1074.
 use mathlib.Core.Path.{_≡_}
+use mathlib.Core.Bool.{Bool}
 use mathlib.Core.List.{List}
 use Prim.Native.Nat.{ℕ, _-_, _*_, _^_, _≤_, _<_}
 use lib.Dec.{T}
 use lib.ListN.{length}
-use lib.IntN.{natAbs, _+ℤ_, _-ℤ_}
-use lib.Ieee.{Float, binary64, neg, add, sub, mul, fits, ofBits}
+use lib.IntN.{ℤ, natAbs, _+ℤ_, _-ℤ_}
+use lib.Ieee.{Float, fin, binary64, up, down, neg, add, sub, mul, fits, ofBits}
 use lib.Ieee.Scale.{finite}
 use Rattle.binary64.specs.Numbers.{zero64, isUsable, magnitude, larger}
 use Rattle.binary64.specs.Root.{root, Nearest}
-use Rattle.binary64.specs.Units.{count, units, total, exactTotal, totalCount, AllFit, AllFinite, Alike, Opposite}
+use Rattle.binary64.specs.Units.{count, signedCount, total, exactTotal, totalCount, AllFit, AllFinite, Alike, Opposite}
+
+-- ---- a value in units
+
+-- `count` drops nothing: m * 2 ^ e, which is m * up e / down e, is a whole number of units where it fits
+abbrev pub CountIsExact : Type 0
+CountIsExact = (s : Bool) (m : ℕ) (e : ℤ) → T (fits binary64 (fin s m e)) → count binary64 (fin s m e) * down e ≡ m * up e * 2 ^ 1074
 
 -- ---- one addition
 
 -- how far the sum is from the exact one, in units
 abbrev pub additionError : Float → Float → ℕ
-additionError x y = natAbs (units binary64 (add binary64 x y) -ℤ (units binary64 x +ℤ units binary64 y))
+additionError x y = natAbs (signedCount binary64 (add binary64 x y) -ℤ (signedCount binary64 x +ℤ signedCount binary64 y))
 
 -- within one part in 2 ^ 53 of the exact sum, and no farther from it than either operand is in magnitude
 pub record NearSum (x y : Float) : Type 0 where
-  pub relative : additionError x y * 2 ^ 53 ≤ natAbs (units binary64 x +ℤ units binary64 y)
+  pub relative : additionError x y * 2 ^ 53 ≤ natAbs (signedCount binary64 x +ℤ signedCount binary64 y)
   pub left : additionError x y ≤ count binary64 x
   pub right : additionError x y ≤ count binary64 y
 
@@ -30,7 +37,7 @@ Addition = (x y : Float) → T (fits binary64 x) → T (fits binary64 y) → T (
 
 pub record NearTotal (xs : List Float) : Type 0 where
   pub terms : AllFinite xs
-  pub near : natAbs (units binary64 (total binary64 zero64 xs) -ℤ exactTotal binary64 xs) * 2 ^ 53 ≤ (length xs - 1) * totalCount binary64 xs
+  pub near : natAbs (signedCount binary64 (total binary64 zero64 xs) -ℤ exactTotal binary64 xs) * 2 ^ 53 ≤ (length xs - 1) * totalCount binary64 xs
 
 abbrev pub Summation : Type 0
 Summation = (xs : List Float) → AllFit binary64 xs → T (finite (total binary64 zero64 xs)) → NearTotal xs

@@ -3,4 +3,3 @@ pub mod Root
 pub mod Significand
 pub mod Units
 pub mod Laws
-pub mod Examples

@@ -9,18 +9,18 @@ use lib.IntN.{ℤ, pos, negℤ, _+ℤ_}
 use lib.Ieee.{Float, nan, inf, fin, Format, low, up, down, add, neg, fits}
 use lib.Ieee.Scale.{finite}
 
--- how many smallest values a finite float is in magnitude
+-- how many smallest values a finite float is in magnitude: exactly, where it fits (`CountIsExact`)
 unfoldable pub count : Format → Float → ℕ
 count f nan = 0
 count f (inf s) = 0
 count f (fin s m e) = m * up e * 2 ^ low f / down e
 
 -- the same with its sign
-unfoldable pub units : Format → Float → ℤ
+unfoldable pub signedCount : Format → Float → ℤ
 unfolding count
-units f nan = pos 0
-units f (inf s) = pos 0
-units f (fin s m e) = cond s (negℤ (pos (count f (fin s m e)))) (pos (count f (fin s m e)))
+signedCount f nan = pos 0
+signedCount f (inf s) = pos 0
+signedCount f (fin s m e) = cond s (negℤ (pos (count f (fin s m e)))) (pos (count f (fin s m e)))
 
 -- ---- sums
 
@@ -32,7 +32,7 @@ total f s (x ∷ xs) = total f (add f s x) xs
 -- the exact sum of the terms, and that of their magnitudes, in smallest values
 unfoldable pub exactTotal : Format → List Float → ℤ
 exactTotal f [] = pos 0
-exactTotal f (x ∷ xs) = units f x +ℤ exactTotal f xs
+exactTotal f (x ∷ xs) = signedCount f x +ℤ exactTotal f xs
 
 unfoldable pub totalCount : Format → List Float → ℕ
 totalCount f [] = 0

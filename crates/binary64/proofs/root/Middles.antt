@@ -1,4 +1,4 @@
--- `root` gives the nearest value: the root of x is between the middles around it, for every x that is finite and above zero. Assumes nothing.
+-- `root` gives the nearest value: it is above zero, and the root of x is between the middles around it, for every x that is finite and above zero. Assumes nothing.
 use mathlib.Core.Path.{_≡_, refl, sym, ap, _∙_, subst}
 use mathlib.Core.Logic.{_⊎_, inl, inr}
 use mathlib.Core.Bool.{Bool, true, false}
@@ -16,13 +16,15 @@ use lib.Ieee.Exact.{HasValue, odd-sign}
 use lib.Dec.{T, lit≤}
 use native.Mathlib.Decide.{decLe}
 use Rattle.binary64.specs.Numbers.{isUsable}
-use Rattle.binary64.specs.Root.{wholeRoot, nearestRoot, root, rootIn, Nearest}
+use Rattle.lines.specs.Lines.{wholeRoot}
+use Rattle.binary64.specs.Root.{nearestRoot, root, rootIn, Nearest}
 use Rattle.binary64.specs.Significand.{Near}
 use Rattle.binary64.specs.Units.{count}
 use Rattle.binary64.proofs.Value.{count-of}
+use Rattle.binary64.proofs.Kept.{root-fits}
 use Rattle.binary64.proofs.root.Squares.{next-square, square-lt, power, halve}
 use Rattle.binary64.proofs.root.Rounding.{root-law, near-low, near-high, nearestRoot-near, ofBits-at, toBits-odd, double-square, doubled, regroup}
-use Rattle.binary64.proofs.root.Patterns.{usable-bits, Positive, root-of, normal-is, subnormal-is, shift-of}
+use Rattle.binary64.proofs.root.Patterns.{usable-bits, Positive, root-of, usable-of, normal-is, subnormal-is, shift-of}
 
 count-odd : (h k : ℕ) → count binary64 (odd 54 false h k 1074) ≡ h * 2 ^ k
 count-odd h k = count-of binary64 (odd 54 false h k 1074) false (h * 2 ^ k) (odd-sign 54 false h k 1074)
@@ -143,7 +145,7 @@ Between : ℕ → Float → Type 0
 Between w r =
     let l = count binary64 (ofBits binary64 (toBits binary64 r - 1)) + count binary64 r in
     let h = count binary64 r + count binary64 (ofBits binary64 (toBits binary64 r + 1)) in
-    (l * l < 4 * w) × (4 * w < h * h)
+    T (isUsable r) × (l * l < 4 * w) × (4 * w < h * h)
 
 between-at : (a h k : ℕ) → 2 ^ 52 ≤ a → a + 2 ≤ 2 ^ 54 → 1 ≤ k → k ≤ 2044 → Near a h → Between (a * 2 ^ 52 * (2 ^ k * 2 ^ k)) (odd 54 false h k 1074)
 unfolding Between
@@ -154,6 +156,7 @@ between-at a h k lo hi k1 kl n =
     let w = M * (2 ^ k * 2 ^ k) in
     let b : toBits binary64 (odd 54 false h k 1074) ≡ k * 2 ^ 52 + h = toBits-odd h k hl hh in
     let c : count binary64 (odd 54 false h k 1074) ≡ h * 2 ^ k = count-odd h k in (
+      usable-of (odd 54 false h k 1074) (h * 2 ^ k) (mul-pos (lt-of-lt-of-le (pow-pos 52) hl) (pow-pos k)) (odd-sign 54 false h k 1074),
       subst (λ (y : ℕ). (count binary64 (ofBits binary64 (y - 1)) + count binary64 (odd 54 false h k 1074)) * (count binary64 (ofBits binary64 (y - 1)) + count binary64 (odd 54 false h k 1074)) < 4 * w) (sym b)
           (subst (λ (y : ℕ). (count binary64 (ofBits binary64 (k * 2 ^ 52 + h - 1)) + y) * (count binary64 (ofBits binary64 (k * 2 ^ 52 + h - 1)) + y) < 4 * w) (sym c)
           (lower-middle M h k (omega arith) hl hh k1 kl (n .above))),
@@ -180,16 +183,13 @@ between a e la ha le he =
 
 -- ---- the law
 
-of-positive : (x : Float) (w : ℕ) → Positive x w → Between w (nearestRoot binary64 w) → Nearest binary64 x (root x)
-unfolding Between Nearest
+of-positive : (x : Float) (w : ℕ) → Positive x w → Between w (nearestRoot binary64 w) → Between (count binary64 x * 2 ^ 1074) (root x)
 of-positive x w p b =
     let c : count binary64 x * 2 ^ 1074 ≡ w = ap (λ (n : ℕ). n * 2 ^ 1074) (count-of binary64 x false (p .a) (p .value)) ∙ p .squares in
-    let s : Between (count binary64 x * 2 ^ 1074) (root x) =
-    subst (λ (n : ℕ). Between n (root x)) (sym c) (subst (λ (r : Float). Between w r) (sym (root-of x w p)) b) in
-    s
+    subst (λ (n : ℕ). Between n (root x)) (sym c) (subst (λ (r : Float). Between w r) (sym (root-of x w p)) b)
 
 -- the patterns above 0 and below the infinity's are those of the finite values above zero
-of-pattern : (b : ℕ) → 0 < b → b < 0x7ff0_0000_0000_0000 → Nearest binary64 (ofBits binary64 b) (root (ofBits binary64 b))
+of-pattern : (b : ℕ) → 0 < b → b < 0x7ff0_0000_0000_0000 → Between (count binary64 (ofBits binary64 b) * 2 ^ 1074) (root (ofBits binary64 b))
 of-pattern b lo hi = go (lt-or-le b)
   where
     lt-or-le : (n : ℕ) → (n < 2 ^ 52) ⊎ (2 ^ 52 ≤ n)
@@ -199,7 +199,7 @@ of-pattern b lo hi = go (lt-or-le b)
         split (yes h) = inr h
         split (no f) = inl (lt-of-not-le f)
 
-    go : (b < 2 ^ 52) ⊎ (2 ^ 52 ≤ b) → Nearest binary64 (ofBits binary64 b) (root (ofBits binary64 b))
+    go : (b < 2 ^ 52) ⊎ (2 ^ 52 ≤ b) → Between (count binary64 (ofBits binary64 b) * 2 ^ 1074) (root (ofBits binary64 b))
     go (inl l) =
         let s = shift-of b lo l in
         let z = leadingZeros 64 b - 11 in
@@ -209,6 +209,8 @@ of-pattern b lo hi = go (lt-or-le b)
         (between (b % 2 ^ 52 + 2 ^ 52) (b / 2 ^ 52 + 1073) (omega arith) (omega arith) (omega arith) (omega arith))
 
 pub root-is-nearest : (x : Float) → T (fits binary64 x) → T (isUsable x) → Nearest binary64 x (root x)
+unfolding Between Nearest
 root-is-nearest x F u =
     let b = usable-bits x F u in
-    subst (λ (v : Float). Nearest binary64 v (root v)) (ofBits-toBits binary64 x F) (of-pattern (toBits binary64 x) (b .0) (b .1))
+    let s = subst (λ (v : Float). Between (count binary64 v * 2 ^ 1074) (root v)) (ofBits-toBits binary64 x F) (of-pattern (toBits binary64 x) (b .0) (b .1)) in
+    (root-fits binary64 x F, s .0, s .1, s .2)

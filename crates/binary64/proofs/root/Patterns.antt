@@ -12,7 +12,7 @@ use lib.Count.{leadingZeros, leading-top}
 use lib.Ieee.{Float, nan, inf, fin, binary64, fits, isNan, up, down, odd, top, le, lt, eq, ofFields, ofBits, toBits}
 use lib.Ieee.Scale.{finite}
 use lib.Ieee.Bits.{is-true, is-false, cond-no, ofBits-toBits, toBits-lt, nanBits-is, nanBits-above}
-use lib.Ieee.Fits.{and-i, eq→eqb, down-pos}
+use lib.Ieee.Fits.{and-i, eq→eqb, up-pos, down-pos}
 use lib.Ieee.Exact.{HasValue, odd-sign}
 use Rattle.binary64.specs.Numbers.{isUsable}
 use Rattle.binary64.specs.Root.{root, rootIn, nearestRoot}
@@ -201,7 +201,31 @@ shift-of b lo hi =
       lt-of-lt-of-le (shl-lt (suc j) (z - 11) (l .3)) (le-of-eq (ap (λ (x : ℕ). 2 ^ x) more)),
     )
 
--- ---- the patterns of the values above zero
+-- ---- the values above zero, and their patterns
+
+pub usable-of : (x : Float) (a : ℕ) → 0 < a → HasValue x false a (2 ^ 1074) → T (isUsable x)
+unfolding le lt eq ofBits
+usable-of nan a p v = absurd v
+usable-of (inf s) a p v = absurd v
+usable-of (fin true m e) a p v = absurd (true≢false (v .0))
+usable-of (fin false zero e) a p v = absurd (no-zero e a p (v .1))
+usable-of (fin false (suc m) e) a p v =
+    let x = suc m * up e * 1 in
+    let y = 0 * 1 * down e in
+    let l : 0 < x = mul-pos (mul-pos (zero-lt-suc m) (up-pos e)) (pow-pos 0) in
+    let z : y ≡ 0 = zero-mul (down e) in
+    neither (ltb x y) (eqb x y) true (λ t. under x y l z (ltb→lt x y t)) (λ t. same x y l z (eqb→eq x y t))
+  where
+    neither : (i j t : Bool) → (T i → ⊥) → (T j → ⊥) → T (not (i || (j && t)))
+    neither true j t f g = f tt
+    neither false true t f g = absurd (g tt)
+    neither false false t f g = tt
+
+    under : (x y : ℕ) → 0 < x → y ≡ 0 → x < y → ⊥
+    under x y l z h = omega arith
+
+    same : (x y : ℕ) → 0 < x → y ≡ 0 → x ≡ y → ⊥
+    same x y l z h = omega arith
 
 not-left : (p q : Bool) → T (not (p || q)) → T (not p)
 not-left false q t = tt

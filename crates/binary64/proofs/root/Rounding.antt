@@ -14,7 +14,8 @@ use lib.Ieee.{Float, inf, fin, binary64, prec, low, up, down, minus, size, neare
 use lib.Ieee.Digits.{odd-val, size-lt, size-le}
 use lib.Ieee.Fits.{down-pos, odd-fits}
 use lib.Ieee.Bits.{is-true, ofBits-toBits}
-use Rattle.binary64.specs.Root.{wholeRoot, nearestRoot}
+use Rattle.lines.specs.Lines.{wholeRoot}
+use Rattle.binary64.specs.Root.{nearestRoot}
 use Rattle.binary64.specs.Significand.{Near}
 use Rattle.binary64.proofs.root.Squares.{next-square}
 

@@ -12,7 +12,7 @@ use lib.Ieee.{Float, nan, binary64, fits}
 use lib.Ieee.Scale.{finite}
 use Rattle.binary64.specs.Laws.{NearTotal}
 use Rattle.binary64.specs.Numbers.{zero64}
-use Rattle.binary64.specs.Units.{units, total, exactTotal}
+use Rattle.binary64.specs.Units.{signedCount, total, exactTotal}
 use Rattle.binary64.proofs.Laws.{summation}
 use Rattle.numerics.specs.Outflow.{Faces, facesOf, terms, scatter, outflows, Flows, fluxAt}
 use Rattle.numerics.proofs.Scatter.{length-scatter, sums-its-terms}
@@ -34,7 +34,7 @@ module _ (m : Faces) (n : ℕ) (outs : List Float) (fit : (f : ℕ) → f < n �
   -- a cell's outflow is near the exact sum of its terms
   pub near-terms : NearTerms m n outs
   near-terms c h =
-      subst (λ (r : Float). natAbs (units binary64 r -ℤ exactTotal binary64 (terms m n c)) * 2 ^ 53 ≤ bound (terms m n c)) (sym (sums c h)) (near-total c h .near)
+      subst (λ (r : Float). natAbs (signedCount binary64 r -ℤ exactTotal binary64 (terms m n c)) * 2 ^ 53 ≤ bound (terms m n c)) (sym (sums c h)) (near-total c h .near)
 
   -- every flux is finite
   pub fluxes-finite : ((f : ℕ) → f < n → m .owner f < length outs) → (f : ℕ) → f < n → T (finite (m .flux f))
@@ -47,7 +47,7 @@ module _ (m : Faces) (n : ℕ) (outs : List Float) (fit : (f : ℕ) → f < n �
   below (suc k) h =
       let S = exactTotal binary64 (take k outs) in
       let E = sumTo (cellSum m (length outs) n) k in
-      let x = units binary64 (getD outs k nan) in
+      let x = signedCount binary64 (getD outs k nan) in
       let t = exactTotal binary64 (terms m n k) in
       let D = natAbs (exactTotal binary64 (take (suc k) outs) -ℤ (E +ℤ t)) in
       let tri : D ≤ natAbs (S -ℤ E) + natAbs (x -ℤ t) =

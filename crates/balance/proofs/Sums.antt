@@ -12,7 +12,7 @@ use lib.IntN.{ℤ, pos, negsuc, negℤ, natAbs, subℕ, _+ℤ_, _-ℤ_, +ℤ-ass
 use lib.ListN.{length, take, getD}
 use lib.Seq.{take-suc}
 use lib.Ieee.{Float, nan, binary64}
-use Rattle.binary64.specs.Units.{units, exactTotal}
+use Rattle.binary64.specs.Units.{signedCount, exactTotal}
 use Rattle.binary64.proofs.Parts.{gap}
 use Rattle.binary64.proofs.Integers.{four, pos-is, neg-is, sub-add, abs-sub}
 use Rattle.numerics.specs.Outflow.{only}
@@ -97,15 +97,15 @@ sumTo-one a o (suc n) h =
 pub sum-append : (xs ys : List Float) → exactTotal binary64 (xs ++ ys) ≡ exactTotal binary64 xs +ℤ exactTotal binary64 ys
 unfolding exactTotal
 sum-append [] ys = sym (+ℤ-idl (exactTotal binary64 ys))
-sum-append (x ∷ xs) ys = ap (λ (z : ℤ). units binary64 x +ℤ z) (sum-append xs ys) ∙ sym (+ℤ-assoc (units binary64 x) (exactTotal binary64 xs) (exactTotal binary64 ys))
+sum-append (x ∷ xs) ys = ap (λ (z : ℤ). signedCount binary64 x +ℤ z) (sum-append xs ys) ∙ sym (+ℤ-assoc (signedCount binary64 x) (exactTotal binary64 xs) (exactTotal binary64 ys))
 
-pub sum-only : (b : Bool) (x : Float) → exactTotal binary64 (only b x) ≡ cond b (units binary64 x) (pos 0)
+pub sum-only : (b : Bool) (x : Float) → exactTotal binary64 (only b x) ≡ cond b (signedCount binary64 x) (pos 0)
 unfolding exactTotal
-sum-only true x = +ℤ-idr (units binary64 x)
+sum-only true x = +ℤ-idr (signedCount binary64 x)
 sum-only false x = refl
 
-pub sum-take : (l : List Float) (n : ℕ) → n < length l → exactTotal binary64 (take (suc n) l) ≡ exactTotal binary64 (take n l) +ℤ units binary64 (getD l n nan)
+pub sum-take : (l : List Float) (n : ℕ) → n < length l → exactTotal binary64 (take (suc n) l) ≡ exactTotal binary64 (take n l) +ℤ signedCount binary64 (getD l n nan)
 sum-take l n h = ap (exactTotal binary64) (take-suc l n nan h) ∙ sum-append (take n l) (getD l n nan ∷ []) ∙ ap (λ (z : ℤ). exactTotal binary64 (take n l) +ℤ z) (single (getD l n nan))
   where
-    single : (x : Float) → exactTotal binary64 (x ∷ []) ≡ units binary64 x
+    single : (x : Float) → exactTotal binary64 (x ∷ []) ≡ signedCount binary64 x
     single x = sum-only true x

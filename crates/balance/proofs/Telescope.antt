@@ -6,8 +6,8 @@ use native.Mathlib.Omega.{arith}
 use lib.Dec.{eqb, eqb·zero-suc, eqb·suc-zero, eqb·suc-suc}
 use lib.IntN.{ℤ, pos, _+ℤ_, +ℤ-idr, +ℤ-invr}
 use lib.Ieee.{Float, binary64, neg}
-use Rattle.binary64.specs.Units.{units, exactTotal}
-use Rattle.binary64.proofs.Sign.{units-neg}
+use Rattle.binary64.specs.Units.{signedCount, exactTotal}
+use Rattle.binary64.proofs.Sign.{signedCount-neg}
 use Rattle.numerics.specs.Outflow.{Faces, only, upTo, faceTerms}
 use Rattle.balance.specs.Balance.{oneCellFlux}
 use Rattle.balance.proofs.Sums.{sumTo, sumTo-is, sumTo-add, sumTo-zero, sumTo-one, at, sum-append, sum-only}
@@ -24,12 +24,12 @@ unfolding at
 after-suc a n k h = sumTo-is (after a (suc n)) (at a n) k (λ c. ap (λ (b : Bool). cond b a (pos 0)) (eqb·suc-suc n c)) ∙ sumTo-one a n k h
 
 -- what one face gives all cells: its flux, and its flux negated unless it has one cell
-one-face : (v : Float) (n k : ℕ) → n ≤ k → units binary64 v +ℤ sumTo (after (units binary64 (neg v)) n) k ≡ exactTotal binary64 (only (eqb n 0) v)
+one-face : (v : Float) (n k : ℕ) → n ≤ k → signedCount binary64 v +ℤ sumTo (after (signedCount binary64 (neg v)) n) k ≡ exactTotal binary64 (only (eqb n 0) v)
 one-face v zero k h =
-    ap (λ (z : ℤ). units binary64 v +ℤ z) (after-zero (units binary64 (neg v)) k) ∙ +ℤ-idr (units binary64 v) ∙ sym (sum-only true v)
+    ap (λ (z : ℤ). signedCount binary64 v +ℤ z) (after-zero (signedCount binary64 (neg v)) k) ∙ +ℤ-idr (signedCount binary64 v) ∙ sym (sum-only true v)
 one-face v (suc n) k h =
-    ap (λ (z : ℤ). units binary64 v +ℤ z) (after-suc (units binary64 (neg v)) n k h ∙ units-neg binary64 v)
-    ∙ +ℤ-invr (units binary64 v)
+    ap (λ (z : ℤ). signedCount binary64 v +ℤ z) (after-suc (signedCount binary64 (neg v)) n k h ∙ signedCount-neg binary64 v)
+    ∙ +ℤ-invr (signedCount binary64 v)
     ∙ sym (sum-only false v)
     ∙ ap (λ (b : Bool). exactTotal binary64 (only b v)) (sym (eqb·suc-zero n))
 
@@ -42,10 +42,10 @@ module _ (m : Faces) (cells : ℕ) where
   unfolding faceTerms oneCellFlux at
   face-sum f ho hn =
       let v = m .flux f in
-      sumTo-is (λ (c : ℕ). exactTotal binary64 (faceTerms m c f)) (λ (c : ℕ). at (units binary64 v) (m .owner f) c +ℤ after (units binary64 (neg v)) (m .neighbour f) c) cells
+      sumTo-is (λ (c : ℕ). exactTotal binary64 (faceTerms m c f)) (λ (c : ℕ). at (signedCount binary64 v) (m .owner f) c +ℤ after (signedCount binary64 (neg v)) (m .neighbour f) c) cells
       (λ c. sum-append (only (eqb (m .owner f) c) v) (only (eqb (m .neighbour f) (suc c)) (neg v)) ∙ ap₂ (λ (x y : ℤ). x +ℤ y) (sum-only (eqb (m .owner f) c) v) (sum-only (eqb (m .neighbour f) (suc c)) (neg v)))
-      ∙ sumTo-add (at (units binary64 v) (m .owner f)) (after (units binary64 (neg v)) (m .neighbour f)) cells
-      ∙ ap (λ (z : ℤ). z +ℤ sumTo (after (units binary64 (neg v)) (m .neighbour f)) cells) (sumTo-one (units binary64 v) (m .owner f) cells ho)
+      ∙ sumTo-add (at (signedCount binary64 v) (m .owner f)) (after (signedCount binary64 (neg v)) (m .neighbour f)) cells
+      ∙ ap (λ (z : ℤ). z +ℤ sumTo (after (signedCount binary64 (neg v)) (m .neighbour f)) cells) (sumTo-one (signedCount binary64 v) (m .owner f) cells ho)
       ∙ one-face v (m .neighbour f) cells hn
 
   pub telescope : (n : ℕ) → ((f : ℕ) → f < n → m .owner f < cells) → ((f : ℕ) → f < n → m .neighbour f ≤ cells) → sumTo (cellSum n) cells ≡ exactTotal binary64 (upTo (oneCellFlux m) n)

@@ -6,7 +6,7 @@ use lib.IntN.{natAbs, _-ℤ_}
 use lib.ListN.{length, getD}
 use lib.Ieee.{Float, nan, binary64}
 use lib.Ieee.Scale.{finite}
-use Rattle.binary64.specs.Units.{units, exactTotal, totalCount}
+use Rattle.binary64.specs.Units.{signedCount, exactTotal, totalCount}
 use Rattle.numerics.specs.Outflow.{Faces, only, upTo, terms}
 
 -- the flux of the face f, where it has one cell; those of all such faces below n
@@ -28,7 +28,7 @@ allowance m n (suc c) = allowance m n c + bound (terms m n c)
 -- each cell's outflow is as near to the exact sum of its terms
 abbrev pub NearTerms : Faces → ℕ → List Float → Type 0
 NearTerms m n outflow =
-    (c : ℕ) → c < length outflow → natAbs (units binary64 (getD outflow c nan) -ℤ exactTotal binary64 (terms m n c)) * 2 ^ 53 ≤ bound (terms m n c)
+    (c : ℕ) → c < length outflow → natAbs (signedCount binary64 (getD outflow c nan) -ℤ exactTotal binary64 (terms m n c)) * 2 ^ 53 ≤ bound (terms m n c)
 
 -- and all outflows together are as near to the exact flux through the faces with one cell
 abbrev pub NearWhole : Faces → ℕ → List Float → Type 0

@@ -4,6 +4,11 @@ use mathlib.Core.List.{List, [], _∷_, _++_}
 use Prim.Native.Nat.{ℕ, zero, suc, _+_, _*_, _<_}
 use lib.ListN.{length, getD}
 use lib.Ieee.{Float}
+use Rattle.mesh.specs.Pass.{ifRefused}
+use Rattle.mesh.specs.declared.Answer.{Answer}
+use Rattle.mesh.specs.declared.Counts.{Counts}
+use Rattle.numerics.specs.Slices.{Slices}
+use Rattle.numerics.specs.Gradient.{gradients, gradientChecks}
 use Rattle.vector.specs.Vector.{vectorsOf, vectorAt, vec, zero3}
 use Rattle.vector.specs.declared.Vec3.{Vec3}
 
@@ -25,3 +30,10 @@ Numbered = (l : List Float) (i : ℕ) → 3 * i + 2 < length l → getD (vectors
 
 abbrev pub Regrouped : Type 0
 Regrouped = (h : ℕ → Vec3) (n : ℕ) → vectors (vectorsOf h n) ≡ recordsOf h n
+
+-- ---- the entry
+
+-- the answer, and what the output holds after the call: untouched where a check refuses, else the records of the number form
+pub record RecordsCall (n : Counts) (stencil records : ℕ) (s : Slices) (number : ℕ) (field : List Float) (old : List Vec3) (r : Answer) (new : List Vec3) : Type 0 where
+  pub answer : r ≡ gradientChecks n stencil records s number field (3 * length old)
+  pub out : new ≡ ifRefused r old (vectors (gradients s records field (n .cells)))

@@ -1,11 +1,10 @@
 // Gradients handed out as a lent slice of records: a thin function over the number form of `numerics`.
 ghost use mathlib.Core.Path.{_≡_};
 ghost use Prim.Native.Nat.{_*_};
-ghost use lib.ListN.{length};
 ghost use Rattle.mesh.specs.Pass.{ifRefused};
-ghost use Rattle.numerics.specs.Slices.{slices};
-ghost use Rattle.numerics.specs.Gradient.{gradients, gradientChecks};
-ghost use Rattle.records.specs.Records.{vectors};
+ghost use Rattle.numerics.specs.Slices.{slicesBefore};
+ghost use Rattle.numerics.specs.Gradient.{gradientChecks};
+ghost use Rattle.records.specs.Records.{RecordsCall};
 use mesh::Answer;
 use mesh::Counts;
 use vector::Vec3;
@@ -23,7 +22,9 @@ fn check(
     field: &[f64],
     outs: usize,
 ) -> Answer
-    ensures { λ r. ⌜ r ≡ gradientChecks counts stencil records (slices (now (starts .entry)) (now (equations .entry)) (now (weights .entry)) (now (inverses .entry))) number (now (field .entry)) (3 * outs) ⌝ }
+    ensures checked { λ r.
+        let s = slicesBefore starts equations weights inverses in
+        ⌜ r ≡ gradientChecks counts stencil records s number (now (field .entry)) (3 * outs) ⌝ }
 {
     numerics::check_gradient(
         counts,
@@ -63,8 +64,9 @@ pub fn least_squares_gradient(
     field: &[f64],
     out: &mut [Vec3],
 ) -> Answer
-    ensures { λ r. ⌜ r ≡ gradientChecks counts stencil records (slices (now (starts .entry)) (now (equations .entry)) (now (weights .entry)) (now (inverses .entry))) number (now (field .entry)) (3 * length (now (out .entry))) ⌝ }
-    ensures { λ r. ⌜ now (out .exit) ≡ ifRefused r (now (out .entry)) (vectors (gradients (slices (now (starts .entry)) (now (equations .entry)) (now (weights .entry)) (now (inverses .entry))) records (now (field .entry)) (counts .cells))) ⌝ }
+    ensures call { λ r.
+        let s = slicesBefore starts equations weights inverses in
+        ⌜ RecordsCall counts stencil records s number (now (field .entry)) (now (out .entry)) r (now (out .exit)) ⌝ }
 {
     let outs = out.len();
     let answer = check(

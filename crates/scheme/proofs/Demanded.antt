@@ -18,28 +18,29 @@ use Rattle.chain.specs.declared.Found.the-variants.{Nothing, At}
 use Rattle.mesh.proofs.Facts.{both-accepted}
 use Rattle.chain.proofs.Search.{none-below}
 use Rattle.mesh.proofs.Values.{value-at}
-use Rattle.stencil.specs.Checks.{lentOf}
+use Rattle.mesh.specs.Mesh.{boundsOf}
+use Rattle.stencil.specs.Lent.{lentOf}
 use Rattle.numerics.specs.Outflow.{facesOf}
 use Rattle.stencil.specs.Stencil.{stencilAnswer}
 use Rattle.balance.proofs.Closes.{balances}
 use Rattle.balance.specs.Balance.{Balanced}
-use Rattle.predictor.specs.Boundary.{boundsOf, boundaryAnswer}
+use Rattle.predictor.specs.Boundary.{boundaryAnswer}
 use Rattle.corrector.specs.Correction.{correctedFluxAt, correctionAnswer}
 use Rattle.corrector.specs.Metrics.{metricsOf, metricsAnswer}
 use Rattle.predictor.specs.Prediction.{predictionAnswer}
 use Rattle.corrector.specs.Promise.{Boundary, Promise, boundaryOf}
 use Rattle.corrector.proofs.Promised.{promised, withGiven, carried}
-use Rattle.scheme.specs.Step.{Given, Lendable, gridOf, flowOf, predictedOf, coefficientsOf, correctingOf, fluxesOf, outflowsOf, spilled, endless, finiteAnswer, workAnswer}
+use Rattle.scheme.specs.Step.{Inputs, Lendable, gridOf, flowOf, predictedOf, coefficientsOf, correctingOf, fluxesOf, outflowsOf, spilled, endless, finiteAnswer, workAnswer}
 use Rattle.scheme.specs.Demand.{wallsOf, DemandThree}
 use Rattle.scheme.proofs.Fitting.{value-fits}
-use Rattle.scheme.proofs.Parts.{predicted-size, fluxes-size, wall-kept, below, correctable, flows}
+use Rattle.scheme.proofs.Parts.{predicted-size, fluxes-size, outflows-size, wall-kept, below, correctable, flows}
 
 nothing-spilled : (f : Found) → spilled f ≡ Accepted → f ≡ Nothing
 unfolding spilled
 nothing-spilled Nothing h = refl
 nothing-spilled (At c) h = cc
 
-module _ (d : Given) (ready : Lendable d) where
+module _ (d : Inputs) (ready : Lendable d) where
   abbrev faces : ℕ
   faces = d .mesh .counts .faces
 
@@ -88,6 +89,8 @@ module _ (d : Given) (ready : Lendable d) where
 
     pub demanded : DemandThree d (fluxesOf d) (outflowsOf d)
     demanded = record {
+      fluxes = fluxes-size d ready;
+      outflows = outflows-size d ready;
       finite-outflows = finite-outflows;
       balanced = subst (λ (n : ℕ). Balanced (facesOf (d .mesh .adjacency) (fluxesOf d)) n (outflowsOf d)) (fluxes-size d ready) (balances cells (d .mesh .adjacency) (fluxesOf d) (flows d ready) fluxes-fit finite-outflows);
       kept = kept;

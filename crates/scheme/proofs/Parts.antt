@@ -3,30 +3,31 @@ use mathlib.Core.Path.{_≡_, refl, sym, ap, _∙_, subst}
 use mathlib.Core.List.{List, [], _∷_}
 use Prim.Native.Nat.{ℕ, _*_, _<_}
 use native.Mathlib.Omega.{arith}
-use lib.ListN.{length, getD}
+use lib.ListN.{length, getD, replicate, length-replicate}
 use lib.Ieee.{Float, nan}
 use Rattle.mesh.specs.Answers.{orElse, firstOf}
 use Rattle.mesh.specs.Pass.{valueOf}
-use Rattle.chain.specs.Pairs.{secondAt}
+use Rattle.mesh.specs.Mesh.{boundsOf}
+use Rattle.mesh.specs.Records.{neighbourAt}
 use Rattle.mesh.specs.declared.Answer.{Answer}
 use Rattle.mesh.specs.declared.Answer.the-variants.{Accepted, Refused}
 use Rattle.mesh.proofs.Facts.{both-accepted, peer-below}
 use Rattle.mesh.proofs.Values.{length-listOf, getD-listOf}
-use Rattle.numerics.specs.Slices.{slices}
-use Rattle.stencil.specs.Checks.{lentOf}
+use Rattle.numerics.specs.Slices.{Slices}
 use Rattle.numerics.specs.Gradient.{Sloped, gradients}
-use Rattle.stencil.specs.Lent.{Lent, Good}
-use Rattle.numerics.specs.Outflow.{Flows, outflows}
-use Rattle.stencil.specs.Stencil.{stencilAnswer, stencilStarts, stencilEquations}
-use Rattle.stencil.proofs.Good.{lent-good}
+use Rattle.stencil.specs.Lent.{Lent, lentOf, Buildable}
+use Rattle.numerics.specs.Outflow.{Flows, facesOf, outflows}
+use Rattle.numerics.proofs.Scatter.{length-scatter}
+use Rattle.binary64.specs.Numbers.{zero64}
+use Rattle.stencil.specs.Stencil.{stencilAnswer, stencilSlices}
 use Rattle.stencil.proofs.inner.build.Sound.{accepted-sound}
-use Rattle.predictor.specs.Boundary.{Bounded, Begun, boundsOf, boundaryAnswer, boundaryCoefficients, coefficientAt}
+use Rattle.predictor.specs.Boundary.{Bounded, Begun, boundaryAnswer, boundaryCoefficients, coefficientAt}
 use Rattle.corrector.specs.Correction.{Correcting, correcting, Correctable, correctedFluxAt, correctionAnswer, correctedFluxes}
 use Rattle.predictor.specs.Coefficients.{coefficientAnswer, coefficients}
 use Rattle.coupling.specs.Grid.{Grid, Coupled}
 use Rattle.corrector.specs.Metrics.{metricsOf, metricsAnswer, metricsNumbers}
 use Rattle.predictor.specs.Prediction.{Flow, flow, Flowing, predictedAt, predictionAnswer, predictedFluxes}
-use Rattle.scheme.specs.Step.{Given, Lendable, gridOf, stencilOf, gradientOf, flowOf, predictedOf, coefficientsOf, correctingOf, fluxesOf, outflowsOf, finiteAnswer, workAnswer}
+use Rattle.scheme.specs.Step.{Inputs, Lendable, gridOf, stencilOf, gradientOf, flowOf, predictedOf, coefficientsOf, correctingOf, fluxesOf, outflowsOf, finiteAnswer, workAnswer}
 
 -- a correction asks nothing of the coefficients but how many they are
 pub with-coefficients : (a c : List ℕ) (v p k l x : List Float) → length l ≡ length k → Correctable (correcting a c v p k x) → Correctable (correcting a c v p l x)
@@ -46,20 +47,16 @@ begun m q walls l ok e is = (rw e (both-accepted (coefficientAnswer m (q .respon
 
 -- ---- the stencil
 
-pub same-slices : (s t e f : List ℕ) (w x i j : List Float) → s ≡ t → e ≡ f → w ≡ x → i ≡ j → slices s e w i ≡ slices t f x j
-same-slices s t e f w x i j es ee ew ei = rw (es, ee, ew, ei)
-
 -- one that was accepted serves for a gradient
-pub sloped : (m : Lent) (records : ℕ) (s e : List ℕ) (w i p : List Float) → Good m → stencilAnswer m records ≡ Accepted
-    → s ≡ stencilStarts m records → e ≡ stencilEquations m records
-    → length s ≡ m .counts .cells → length e ≡ 2 * records → length w ≡ 4 * records → length i ≡ 9 * (m .counts .cells) → length p ≡ m .counts .cells
-    → Sloped (slices s e w i) records p
-sloped m records s e w i p good ok es ee ls le lw li lp = record {
+pub sloped : (l : Lent) (records : ℕ) (s : Slices) (p : List Float) → Buildable l → stencilAnswer l records ≡ Accepted → s ≡ stencilSlices l records
+    → length (s .starts) ≡ l .mesh .counts .cells → length (s .equations) ≡ 2 * records → length (s .weights) ≡ 4 * records → length (s .inverses) ≡ 9 * (l .mesh .counts .cells)
+    → length p ≡ l .mesh .counts .cells → Sloped s records p
+sloped l records s p good ok is ls le lw li lp = record {
   starts = ls ∙ sym lp;
   equations = le;
   weights = lw;
   inverses = omega (arith, li, lp);
-  chains = λ c h. rw (es, ee, lp) (accepted-sound m records good (sym ok) c (omega (arith, h, lp)));
+  chains = λ c h. rw (is, lp) (accepted-sound l records good (sym ok) c (omega (arith, h, lp)));
 }
 
 -- ---- the answers
@@ -77,7 +74,7 @@ regrouped Accepted Accepted Accepted Accepted Accepted Accepted = refl
 
 -- ---- the parts of one step
 
-module _ (d : Given) (ready : Lendable d) where
+module _ (d : Inputs) (ready : Lendable d) where
   abbrev faces : ℕ
   faces = d .mesh .counts .faces
 
@@ -93,8 +90,12 @@ module _ (d : Given) (ready : Lendable d) where
   pub fluxes-size : length (fluxesOf d) ≡ faces
   fluxes-size = length-listOf (λ (i : ℕ). valueOf (correctedFluxAt (correctingOf d) i)) (length (predictedOf d)) ∙ predicted-size
 
+  pub outflows-size : length (outflowsOf d) ≡ cells
+  unfolding outflows
+  outflows-size = length-scatter (facesOf (d .mesh .adjacency) (fluxesOf d)) (replicate cells zero64) (length (fluxesOf d)) ∙ length-replicate cells zero64
+
   -- a one-cell face's predicted flux is its wall flux
-  pub wall-kept : (f : ℕ) → f < faces → secondAt (d .mesh .adjacency) f ≡ 0 → getD (predictedOf d) f nan ≡ getD (d .walls .values) f nan
+  pub wall-kept : (f : ℕ) → f < faces → neighbourAt (d .mesh .adjacency) f ≡ 0 → getD (predictedOf d) f nan ≡ getD (d .walls .values) f nan
   unfolding predictedAt valueOf
   wall-kept f l e =
       getD-listOf (λ (i : ℕ). valueOf (predictedAt (gridOf d) (flowOf d) (d .walls .values) i)) (length (d .walls .values)) f (omega (arith, l, ready .walls)) ∙ rw e
@@ -116,8 +117,8 @@ module _ (d : Given) (ready : Lendable d) where
   pub flows : Flows cells (d .mesh .adjacency) (fluxesOf d)
   flows = record { size = omega (arith, ready .good .sized .adjacency, fluxes-size); faces = λ f l. ready .good .sound .faces f (omega (arith, l, fluxes-size)) }
 
-  pub lent-stencil : Good (lentOf (d .mesh) (d .conditions))
-  lent-stencil = lent-good (d .mesh) (d .conditions) (ready .good .sized) (ready .good .sound) (ready .good .codes) (ready .good .values)
+  pub lent-stencil : Buildable (lentOf (d .mesh) (d .conditions))
+  lent-stencil = record { sized = ready .good .sized; codes = ready .good .codes; values = ready .good .values; sound = ready .good .sound }
 
   pub coupled : (c f : ℕ) → c ≡ cells → f ≡ faces → Coupled (gridOf d) c f
   coupled c f ec ef = record {

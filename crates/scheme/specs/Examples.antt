@@ -4,17 +4,17 @@ use mathlib.Core.List.{List, [], _∷_}
 use Prim.Native.Nat.{ℕ, _+_, _*_, _^_, _≤_}
 use lib.IntN.{pos, natAbs, _-ℤ_}
 use lib.Ieee.{Float, binary64, ofBits}
+use Rattle.binary64.specs.Numbers.{zero64}
 use Rattle.binary64.specs.Root.{root}
 use Rattle.binary64.specs.Units.{exactTotal}
 use Rattle.vector.specs.Vector.{vec}
-use Rattle.mesh.specs.declared.Condition.the-variants.{Fixed, ZeroGradient}
 use Rattle.mesh.specs.declared.Outcome.the-variants.{Value, Bad}
 use Rattle.vector.specs.declared.Vec3.{Vec3}
-use Rattle.coupling.specs.Face.{pair, distances, internalCoefficient, correctedFlux}
+use Rattle.coupling.specs.Face.{pair, distances, internalCoefficient}
 use Rattle.coupling.specs.declared.Span.{Span}
 use Rattle.numerics.specs.Outflow.{facesOf, terms, outflows}
 use Rattle.balance.specs.Balance.{bound}
-use Rattle.corrector.specs.Correction.{wallFlux}
+use Rattle.corrector.specs.Correction.{Correcting, correcting, correctedFluxAt}
 
 abbrev pub float : ℕ → Float
 float b = ofBits binary64 b
@@ -54,14 +54,28 @@ point x y z = vec (float x) (float y) (float z)
 abbrev pub betweenCubes : Span
 betweenCubes = record { center = point one half half; area = point one naught naught; owner = point half half half; other = point oneAndHalf half half }
 
+-- meshes of one face, whose owner is cell 0: between the cells 0 and 1; with a fixed value, the code 1; and with a zero gradient, the code 2; no face is linked
+abbrev pub oneFace : ℕ → ℕ → Float → Float → Float → List Float → Correcting
+oneFace neighbour code value p k corrections =
+    correcting (0 ∷ neighbour ∷ []) (code ∷ 0 ∷ []) (value ∷ zero64 ∷ zero64 ∷ zero64 ∷ []) (p ∷ []) (k ∷ []) corrections
+
+abbrev pub internalFace : Float → Float → Float → Float → Correcting
+internalFace p k other own = oneFace 2 0 zero64 p k (own ∷ other ∷ [])
+
+abbrev pub fixedFace : Float → Float → Float → Float → Correcting
+fixedFace p k value own = oneFace 0 1 value p k (own ∷ [])
+
+abbrev pub freeFace : Float → Float → Float → Correcting
+freeFace p k own = oneFace 0 2 zero64 p k (own ∷ [])
+
 pub data Example : Type 0 where
   -- the root of a number
   rootIs : ℕ → ℕ → Example
   -- the coefficient of a face with these responses
   coefficientIs : Span → ℕ → ℕ → ℕ → Example
-  -- a predicted flux corrected, with the coefficient, the other correction and the owner's
+  -- the corrected flux of a face with two cells: predicted flux, coefficient, the neighbour's correction and the owner's
   fluxIs : ℕ → ℕ → ℕ → ℕ → ℕ → Example
-  -- the same at a face with a fixed value
+  -- the same of an unlinked face with a fixed value
   fixedIs : ℕ → ℕ → ℕ → ℕ → ℕ → Example
   -- with this coefficient a face with two cells is refused by 9, whatever else it has
   coefficientRefused : ℕ → Example
@@ -73,10 +87,10 @@ pub data Example : Type 0 where
 abbrev pub Holds : Example → Type 0
 Holds (rootIs x r) = root (float x) ≡ float r
 Holds (coefficientIs s a b k) = internalCoefficient s (distances s) (pair (float a) (float b)) ≡ Value (float k)
-Holds (fluxIs p k other own v) = correctedFlux (float p) (float k) (float other) (float own) ≡ Value (float v)
-Holds (fixedIs p k value own v) = wallFlux (Fixed (float value)) (float p) (float k) (float own) ≡ Value (float v)
-Holds (coefficientRefused k) = (p other own : Float) → correctedFlux p (float k) other own ≡ Bad 9
-Holds (coefficientUnread k) = (p own : Float) → wallFlux ZeroGradient p (float k) own ≡ Value p
+Holds (fluxIs p k other own v) = correctedFluxAt (internalFace (float p) (float k) (float other) (float own)) 0 ≡ Value (float v)
+Holds (fixedIs p k value own v) = correctedFluxAt (fixedFace (float p) (float k) (float value) (float own)) 0 ≡ Value (float v)
+Holds (coefficientRefused k) = (p other own : Float) → correctedFluxAt (internalFace p (float k) other own) 0 ≡ Bad 9
+Holds (coefficientUnread k) = (p own : Float) → correctedFluxAt (freeFace p (float k) own) 0 ≡ Value p
 Holds (outflowIs adjacency fluxes o s) =
     (outflows 1 adjacency fluxes ≡ (float o ∷ []))
     × (exactTotal binary64 (terms (facesOf adjacency fluxes) 3 0) ≡ pos s)

@@ -7,25 +7,26 @@ use lib.ListN.{length, getD}
 use lib.Ieee.{Float, nan}
 use Rattle.binary64.specs.Numbers.{isFinite}
 use Rattle.mesh.specs.Answers.{firstOf}
-use Rattle.mesh.specs.Mesh.{Mesh, Conditions, conditions, Good}
+use Rattle.mesh.specs.Checks.{largestCount}
+use Rattle.mesh.specs.Mesh.{Mesh, Conditions, conditions, Good, boundsOf}
 use Rattle.chain.specs.Search.{lowestWhere}
 use Rattle.mesh.specs.declared.Answer.{Answer}
 use Rattle.mesh.specs.declared.Answer.the-variants.{Accepted, Refused}
 use Rattle.chain.specs.declared.Found.{Found}
 use Rattle.chain.specs.declared.Found.the-variants.{Nothing, At}
-use Rattle.numerics.specs.Slices.{Slices, slices}
-use Rattle.stencil.specs.Checks.{lentOf}
+use Rattle.numerics.specs.Slices.{Slices}
+use Rattle.stencil.specs.Lent.{lentOf}
 use Rattle.numerics.specs.Gradient.{gradients}
 use Rattle.numerics.specs.Outflow.{outflows}
-use Rattle.stencil.specs.Stencil.{stencilAnswer, stencilStarts, stencilEquations, stencilWeights, stencilInverses}
-use Rattle.predictor.specs.Boundary.{boundsOf, boundaryAnswer, boundaryCoefficients}
+use Rattle.stencil.specs.Stencil.{stencilAnswer, stencilSlices}
+use Rattle.predictor.specs.Boundary.{boundaryAnswer, boundaryCoefficients}
 use Rattle.corrector.specs.Correction.{Correcting, correcting, correctionAnswer, correctedFluxes}
 use Rattle.coupling.specs.Grid.{Grid, grid, Field, field}
 use Rattle.corrector.specs.Metrics.{metricsOf, metricsAnswer}
 use Rattle.predictor.specs.Prediction.{Flow, flow, predictionAnswer, predictedFluxes}
 
 -- what a step is lent: a mesh, one set of conditions and links, room for so many equations, and the fields
-pub record Given : Type 0 where
+pub record Inputs : Type 0 where
   pub mesh : Mesh
   pub conditions : Conditions
   pub records : ℕ
@@ -35,46 +36,44 @@ pub record Given : Type 0 where
   pub walls : Field
   pub correction : Field
 
-abbrev pub given : Mesh → Conditions → ℕ → Field → Field → Field → Field → Field → Given
-given m k n v p r w x =
+abbrev pub inputs : Mesh → Conditions → ℕ → Field → Field → Field → Field → Field → Inputs
+inputs m k n v p r w x =
     record { mesh = m; conditions = k; records = n; velocity = v; pressure = p; responses = r; walls = w; correction = x }
 
 -- conditions and fields that have the mesh's number
-abbrev pub alike : Mesh → List ℕ → List Float → ℕ → List Float → List Float → List Float → List Float → List Float → Given
+abbrev pub alike : Mesh → List ℕ → List Float → ℕ → List Float → List Float → List Float → List Float → List Float → Inputs
 alike m codes values records v p r w x =
     let n = m .counts .mesh in
-    given m (conditions n codes values) records (field n v) (field n p) (field n r) (field n w) (field n x)
+    inputs m (conditions n codes values) records (field n v) (field n p) (field n r) (field n w) (field n x)
 
-abbrev pub gridOf : Given → Grid
+abbrev pub gridOf : Inputs → Grid
 gridOf d = grid (d .mesh .adjacency) (d .mesh .geometry) (d .mesh .places)
 
 -- ---- what each part hands to the next
 
-abbrev pub stencilOf : Given → Slices
-stencilOf d =
-    let l = lentOf (d .mesh) (d .conditions) in
-    slices (stencilStarts l (d .records)) (stencilEquations l (d .records)) (stencilWeights l (d .records)) (stencilInverses l (d .records))
+abbrev pub stencilOf : Inputs → Slices
+stencilOf d = stencilSlices (lentOf (d .mesh) (d .conditions)) (d .records)
 
-abbrev pub gradientOf : Given → List Float
+abbrev pub gradientOf : Inputs → List Float
 gradientOf d = gradients (stencilOf d) (d .records) (d .pressure .values) (d .mesh .counts .cells)
 
-abbrev pub flowOf : Given → Flow
+abbrev pub flowOf : Inputs → Flow
 flowOf d = flow (d .velocity .values) (d .pressure .values) (gradientOf d) (d .responses .values)
 
-abbrev pub predictedOf : Given → List Float
+abbrev pub predictedOf : Inputs → List Float
 predictedOf d = predictedFluxes (gridOf d) (flowOf d) (d .walls .values)
 
-abbrev pub coefficientsOf : Given → List Float
+abbrev pub coefficientsOf : Inputs → List Float
 coefficientsOf d = boundaryCoefficients (gridOf d) (boundsOf (d .conditions)) (d .responses .values) (d .mesh .counts .faces)
 
-abbrev pub correctingOf : Given → Correcting
+abbrev pub correctingOf : Inputs → Correcting
 correctingOf d =
     correcting (d .mesh .adjacency) (d .conditions .codes) (d .conditions .values) (predictedOf d) (coefficientsOf d) (d .correction .values)
 
-abbrev pub fluxesOf : Given → List Float
+abbrev pub fluxesOf : Inputs → List Float
 fluxesOf d = correctedFluxes (correctingOf d)
 
-abbrev pub outflowsOf : Given → List Float
+abbrev pub outflowsOf : Inputs → List Float
 outflowsOf d = outflows (d .mesh .counts .cells) (d .mesh .adjacency) (fluxesOf d)
 
 -- ---- the answer
@@ -91,7 +90,7 @@ abbrev pub finiteAnswer : List Float → Answer
 finiteAnswer outflow = spilled (lowestWhere (endless outflow) (length outflow))
 
 -- the first refusal of the parts, in their order
-unfoldable pub workAnswer : Given → Answer
+unfoldable pub workAnswer : Inputs → Answer
 workAnswer d =
     firstOf
     (stencilAnswer (lentOf (d .mesh) (d .conditions)) (d .records)
@@ -103,9 +102,9 @@ workAnswer d =
     ∷ [])
 
 -- what the checks establish
-pub record Lendable (d : Given) : Type 0 where
+pub record Lendable (d : Inputs) : Type 0 where
   pub good : Good (d .mesh) (d .conditions)
-  pub few : d .records ≤ 65535
+  pub few : d .records ≤ largestCount
   pub velocity : length (d .velocity .values) ≡ 3 * (d .mesh .counts .cells)
   pub pressure : length (d .pressure .values) ≡ d .mesh .counts .cells
   pub responses : length (d .responses .values) ≡ d .mesh .counts .cells

@@ -7,24 +7,21 @@ use lib.Dec.{eqb, leb}
 use lib.ListN.{length, replicate}
 use lib.Ieee.{Float}
 use Rattle.binary64.specs.Numbers.{zero64}
-use Rattle.mesh.specs.Answers.{orElse, shape}
-use Rattle.mesh.specs.Checks.{sizesOk}
+use Rattle.mesh.specs.Answers.{pass, firstOf, orElse}
+use Rattle.mesh.specs.Checks.{largestCount, sizesOk}
 use Rattle.mesh.specs.Mesh.{meshSized, conditionsSized, topology}
 use Rattle.mesh.specs.Pass.{ifRefused}
 use Rattle.chain.specs.Search.{everyOf}
 use Rattle.mesh.specs.declared.Answer.{Answer}
 use Rattle.mesh.specs.declared.Answer.the-variants.{Accepted}
 use Rattle.mesh.specs.declared.Counts.{Counts}
-use Rattle.numerics.specs.Slices.{lengths, stencilSized}
+use Rattle.numerics.specs.Slices.{Slices, slices, lengthsOf, stencilSized}
 use Rattle.corrector.specs.Metrics.{metricsOf, metricsNumbers}
-use Rattle.scheme.specs.Step.{Given, stencilOf, gradientOf, predictedOf, coefficientsOf, fluxesOf, outflowsOf, workAnswer}
+use Rattle.scheme.specs.Step.{Inputs, stencilOf, gradientOf, predictedOf, coefficientsOf, fluxesOf, outflowsOf, workAnswer}
 
 -- the outputs
 pub record Handed : Type 0 where
-  pub starts : List ℕ
-  pub equations : List ℕ
-  pub weights : List Float
-  pub inverses : List Float
+  pub stencil : Slices
   pub gradient : List Float
   pub predicted : List Float
   pub coefficients : List Float
@@ -32,19 +29,8 @@ pub record Handed : Type 0 where
   pub outflow : List Float
   pub metrics : List Float
 
-abbrev pub handed : List ℕ → List ℕ → List Float → List Float → List Float → List Float → List Float → List Float → List Float → List Float → Handed
-handed s e w i g p k f o m = record {
-  starts = s;
-  equations = e;
-  weights = w;
-  inverses = i;
-  gradient = g;
-  predicted = p;
-  coefficients = k;
-  flux = f;
-  outflow = o;
-  metrics = m;
-}
+abbrev pub handed : Slices → List Float → List Float → List Float → List Float → List Float → List Float → Handed
+handed s g p k f o m = record { stencil = s; gradient = g; predicted = p; coefficients = k; flux = f; outflow = o; metrics = m }
 
 -- what holds where the answer accepts
 abbrev pub IfAccepted : Answer → Type 0 → Type 0
@@ -53,18 +39,19 @@ IfAccepted r P = r ≡ Accepted → P
 -- ---- the checks
 
 -- 2 of the fields, which have so many numbers
-abbrev pub fieldSizes : Counts → ℕ → ℕ → ℕ → ℕ → List Bool
-fieldSizes n pressures responses walls corrections =
-    eqb pressures (n .cells) ∷ eqb responses (n .cells) ∷ eqb walls (n .faces) ∷ eqb corrections (n .cells) ∷ []
+abbrev pub fieldSizes : Counts → ℕ → ℕ → ℕ → ℕ → ℕ → List Bool
+fieldSizes n velocities pressures responses walls corrections =
+    eqb velocities (3 * (n .cells)) ∷ eqb pressures (n .cells) ∷ eqb responses (n .cells) ∷ eqb walls (n .faces) ∷ eqb corrections (n .cells) ∷ []
 
 abbrev pub fieldsSized : Counts → ℕ → ℕ → ℕ → ℕ → ℕ → Bool
 fieldsSized n velocities pressures responses walls corrections =
-    everyOf (eqb velocities (3 * (n .cells))) (fieldSizes n pressures responses walls corrections)
+    everyOf (fieldSizes n velocities pressures responses walls corrections)
 
--- 2 of the outputs; the first four are a stencil's
-abbrev pub outputSizes : Counts → Handed → List Bool
-outputSizes n old =
-    eqb (length (old .gradient)) (3 * (n .cells))
+-- 2 of the outputs; a stencil has room for so many records
+abbrev pub outputSizes : Counts → ℕ → Handed → List Bool
+outputSizes n records old =
+    stencilSized (n .cells) records (lengthsOf (old .stencil))
+    ∷ eqb (length (old .gradient)) (3 * (n .cells))
     ∷ eqb (length (old .predicted)) (n .faces)
     ∷ eqb (length (old .coefficients)) (n .faces)
     ∷ eqb (length (old .flux)) (n .faces)
@@ -73,15 +60,13 @@ outputSizes n old =
     ∷ []
 
 abbrev pub outputsSized : Counts → ℕ → Handed → Bool
-outputsSized n records old =
-    everyOf
-    (stencilSized (n .cells) records (lengths (length (old .starts)) (length (old .equations)) (length (old .weights)) (length (old .inverses))))
-    (outputSizes n old)
+outputsSized n records old = everyOf (outputSizes n records old)
 
--- 3 of the fields
-abbrev pub fieldNumbers : Given → List Bool
-fieldNumbers d =
-    eqb (d .velocity .number) (d .mesh .counts .mesh)
+-- 3 of the conditions and the fields
+abbrev pub stepNumbers : Inputs → List Bool
+stepNumbers d =
+    eqb (d .conditions .number) (d .mesh .counts .mesh)
+    ∷ eqb (d .velocity .number) (d .mesh .counts .mesh)
     ∷ eqb (d .pressure .number) (d .mesh .counts .mesh)
     ∷ eqb (d .responses .number) (d .mesh .counts .mesh)
     ∷ eqb (d .walls .number) (d .mesh .counts .mesh)
@@ -89,47 +74,53 @@ fieldNumbers d =
     ∷ []
 
 -- 1 to 6 of all that is lent
-abbrev pub stepSized : Given → Handed → Bool
+abbrev pub stepSized : Inputs → Handed → Bool
 stepSized d old =
     let n = d .mesh .counts in
     meshSized (d .mesh) && conditionsSized (n .faces) (d .conditions .codes) (d .conditions .values)
     && fieldsSized n (length (d .velocity .values)) (length (d .pressure .values)) (length (d .responses .values)) (length (d .walls .values)) (length (d .correction .values))
     && outputsSized n (d .records) old
 
-unfoldable pub stepChecks : Given → Handed → Answer
+unfoldable pub stepChecks : Inputs → Handed → Answer
 stepChecks d old =
-    orElse
-    (shape (sizesOk (d .mesh .counts) && leb (d .records) 65535) (stepSized d old)
-    (everyOf (eqb (d .conditions .number) (d .mesh .counts .mesh)) (fieldNumbers d)))
-    (topology (d .mesh) (d .conditions .codes))
+    firstOf
+    (pass 1 (sizesOk (d .mesh .counts) && leb (d .records) largestCount)
+    ∷ pass 2 (stepSized d old)
+    ∷ pass 3 (everyOf (stepNumbers d))
+    ∷ topology (d .mesh) (d .conditions .codes)
+    ∷ [])
 
 -- ---- the outputs
 
 -- of an accepted step
-abbrev pub results : Given → Handed
+abbrev pub results : Inputs → Handed
 results d =
-    handed (stencilOf d .starts) (stencilOf d .equations) (stencilOf d .weights) (stencilOf d .inverses) (gradientOf d) (predictedOf d) (coefficientsOf d)
-    (fluxesOf d) (outflowsOf d) (metricsNumbers (metricsOf (d .mesh .places) (outflowsOf d)))
+    handed (stencilOf d) (gradientOf d) (predictedOf d) (coefficientsOf d) (fluxesOf d) (outflowsOf d)
+    (metricsNumbers (metricsOf (d .mesh .places) (outflowsOf d)))
 
 -- 0 and +0.0 throughout, as long as the outputs are
+abbrev pub zeros : List Float → List Float
+zeros l = replicate (length l) zero64
+
+abbrev pub clearedSlices : Slices → Slices
+clearedSlices s = slices (replicate (length (s .starts)) 0) (replicate (length (s .equations)) 0) (zeros (s .weights)) (zeros (s .inverses))
+
 abbrev pub cleared : Handed → Handed
 cleared old =
-    handed (replicate (length (old .starts)) 0) (replicate (length (old .equations)) 0) (replicate (length (old .weights)) zero64)
-    (replicate (length (old .inverses)) zero64) (replicate (length (old .gradient)) zero64) (replicate (length (old .predicted)) zero64)
-    (replicate (length (old .coefficients)) zero64) (replicate (length (old .flux)) zero64) (replicate (length (old .outflow)) zero64)
-    (replicate (length (old .metrics)) zero64)
+    handed (clearedSlices (old .stencil)) (zeros (old .gradient)) (zeros (old .predicted)) (zeros (old .coefficients)) (zeros (old .flux)) (zeros (old .outflow))
+    (zeros (old .metrics))
 
 -- the answer, and what the outputs hold after the call: untouched where a check refuses, cleared where arithmetic does
-pub record StepCall (d : Given) (old : Handed) (r : Answer) (new : Handed) : Type 0 where
+pub record StepCall (d : Inputs) (old : Handed) (r : Answer) (new : Handed) : Type 0 where
   pub answer : r ≡ orElse (stepChecks d old) (workAnswer d)
   pub outputs : new ≡ ifRefused (stepChecks d old) old (ifRefused r (cleared old) (results d))
 
 -- what the checks establish of the outputs
 pub record OutputsFit (n : Counts) (records : ℕ) (old : Handed) : Type 0 where
-  pub starts : length (old .starts) ≡ n .cells
-  pub equations : length (old .equations) ≡ 2 * records
-  pub weights : length (old .weights) ≡ 4 * records
-  pub inverses : length (old .inverses) ≡ 9 * (n .cells)
+  pub starts : length (old .stencil .starts) ≡ n .cells
+  pub equations : length (old .stencil .equations) ≡ 2 * records
+  pub weights : length (old .stencil .weights) ≡ 4 * records
+  pub inverses : length (old .stencil .inverses) ≡ 9 * (n .cells)
   pub gradient : length (old .gradient) ≡ 3 * (n .cells)
   pub predicted : length (old .predicted) ≡ n .faces
   pub coefficients : length (old .coefficients) ≡ n .faces

@@ -1,11 +1,10 @@
 // The coupling step: stencil, predicted flux, coefficients, correction, outflow and metrics in one
 // call. A number that stands before a slice is the mesh number of that slice.
 ghost use mathlib.Core.Path.{_≡_};
-ghost use Rattle.mesh.specs.Mesh.{mesh, conditions};
-ghost use Rattle.coupling.specs.Grid.{field};
-ghost use Rattle.step.specs.Call.{handed, fieldsSized, outputsSized, stepChecks, StepCall};
+ghost use Rattle.mesh.specs.Lent.{meshLent, conditionsLent};
 ghost use Rattle.scheme.specs.Demand.{Demanded};
-ghost use Rattle.scheme.specs.Step.{given};
+ghost use Rattle.step.specs.Call.{fieldsSized, outputsSized, stepChecks, StepCall};
+ghost use Rattle.step.specs.Lent.{inputsLent, outputsBefore, outputsAfter};
 use mesh::Answer;
 use mesh::Counts;
 
@@ -44,7 +43,9 @@ fn outputs_sized(
     outflow: &[f64],
     metrics: &[f64],
 ) -> bool
-    ensures { λ r. ⌜ r ≡ outputsSized counts records (handed (now (starts .entry)) (now (equations .entry)) (now (weights .entry)) (now (inverses .entry)) (now (gradient .entry)) (now (predicted .entry)) (now (coefficients .entry)) (now (flux .entry)) (now (outflow .entry)) (now (metrics .entry))) ⌝ }
+    ensures sized { λ r.
+        let old = outputsBefore starts equations weights inverses gradient predicted coefficients flux outflow metrics in
+        ⌜ r ≡ outputsSized counts records old ⌝ }
 {
     numerics::stencil_sized(
         counts.cells,
@@ -95,7 +96,12 @@ fn check_step(
     outflow: &[f64],
     metrics: &[f64],
 ) -> Answer
-    ensures { λ r. ⌜ r ≡ stepChecks (given (mesh counts (now (adjacency .entry)) (now (geometry .entry)) (now (heads .entry)) (now (places .entry)) (now (facing .entry)) (now (bordering .entry))) (conditions number (now (codes .entry)) (now (values .entry))) records (field velocity (now (velocities .entry))) (field pressure (now (pressures .entry))) (field response (now (responses .entry))) (field wall (now (walls .entry))) (field correction (now (corrections .entry)))) (handed (now (starts .entry)) (now (equations .entry)) (now (weights .entry)) (now (inverses .entry)) (now (gradient .entry)) (now (predicted .entry)) (now (coefficients .entry)) (now (flux .entry)) (now (outflow .entry)) (now (metrics .entry))) ⌝ }
+    ensures checked { λ r.
+        let m = meshLent counts adjacency geometry heads places facing bordering in
+        let k = conditionsLent number codes values in
+        let d = inputsLent m k records velocity velocities pressure pressures response responses wall walls correction corrections in
+        let old = outputsBefore starts equations weights inverses gradient predicted coefficients flux outflow metrics in
+        ⌜ r ≡ stepChecks d old ⌝ }
 {
     let sized = mesh::mesh_sized(
         counts,
@@ -135,7 +141,7 @@ fn check_step(
         & (response == counts.mesh)
         & (wall == counts.mesh)
         & (correction == counts.mesh);
-    let a = mesh::shape(mesh::sizes_ok(counts) & (records <= 65535), sized, same);
+    let a = mesh::shape(mesh::sizes_ok(counts) & (records <= mesh::LARGEST_COUNT), sized, same);
     match a {
         Answer::Accepted => mesh::check_topology(
             counts,
@@ -188,8 +194,18 @@ pub fn step(
     outflow: &mut [f64],
     metrics: &mut [f64],
 ) -> Answer
-    ensures { λ r. ⌜ StepCall (given (mesh counts (now (adjacency .entry)) (now (geometry .entry)) (now (heads .entry)) (now (places .entry)) (now (facing .entry)) (now (bordering .entry))) (conditions number (now (codes .entry)) (now (values .entry))) records (field velocity (now (velocities .entry))) (field pressure (now (pressures .entry))) (field response (now (responses .entry))) (field wall (now (walls .entry))) (field correction (now (corrections .entry)))) (handed (now (starts .entry)) (now (equations .entry)) (now (weights .entry)) (now (inverses .entry)) (now (gradient .entry)) (now (predicted .entry)) (now (coefficients .entry)) (now (flux .entry)) (now (outflow .entry)) (now (metrics .entry))) r (handed (now (starts .exit)) (now (equations .exit)) (now (weights .exit)) (now (inverses .exit)) (now (gradient .exit)) (now (predicted .exit)) (now (coefficients .exit)) (now (flux .exit)) (now (outflow .exit)) (now (metrics .exit))) ⌝ }
-    ensures { λ r. ⌜ Demanded r (given (mesh counts (now (adjacency .entry)) (now (geometry .entry)) (now (heads .entry)) (now (places .entry)) (now (facing .entry)) (now (bordering .entry))) (conditions number (now (codes .entry)) (now (values .entry))) records (field velocity (now (velocities .entry))) (field pressure (now (pressures .entry))) (field response (now (responses .entry))) (field wall (now (walls .entry))) (field correction (now (corrections .entry)))) (now (flux .exit)) (now (outflow .exit)) ⌝ }
+    ensures call { λ r.
+        let m = meshLent counts adjacency geometry heads places facing bordering in
+        let k = conditionsLent number codes values in
+        let d = inputsLent m k records velocity velocities pressure pressures response responses wall walls correction corrections in
+        let old = outputsBefore starts equations weights inverses gradient predicted coefficients flux outflow metrics in
+        let new = outputsAfter starts equations weights inverses gradient predicted coefficients flux outflow metrics in
+        ⌜ StepCall d old r new ⌝ }
+    ensures demanded { λ r.
+        let m = meshLent counts adjacency geometry heads places facing bordering in
+        let k = conditionsLent number codes values in
+        let d = inputsLent m k records velocity velocities pressure pressures response responses wall walls correction corrections in
+        ⌜ Demanded r d (now (flux .exit)) (now (outflow .exit)) ⌝ }
 {
     let a = check_step(
         counts,

@@ -3,20 +3,23 @@ ghost use mathlib.Core.Path.{_≡_};
 ghost use Prim.Native.Nat.{_*_, _≤_, _<_};
 ghost use lib.ListN.{length};
 ghost use Rattle.mesh.specs.Answers.{orElse};
-ghost use Rattle.mesh.specs.Mesh.{mesh};
+ghost use Rattle.mesh.specs.Checks.{largestCount};
+ghost use Rattle.mesh.specs.Lent.{meshLent, boundsLent};
+ghost use Rattle.mesh.specs.Mesh.{bounds};
 ghost use Rattle.mesh.specs.Pass.{ifRefused};
-ghost use Rattle.numerics.specs.Slices.{slices};
+ghost use Rattle.numerics.specs.Slices.{slicesAfter};
 ghost use Rattle.numerics.specs.Gradient.{gradients};
-ghost use Rattle.stencil.specs.Lent.{lent, Good};
 ghost use Rattle.numerics.specs.Outflow.{Flows, outflows};
-ghost use Rattle.stencil.specs.Stencil.{stencilAnswer, stencilStarts, stencilEquations, stencilWeights, stencilInverses};
-ghost use Rattle.predictor.specs.Boundary.{bounds, Bounded, Begun, boundaryAnswer, boundaryCoefficients};
-ghost use Rattle.corrector.specs.Correction.{correcting, Correctable, correctionAnswer, correctedFluxes};
-ghost use Rattle.coupling.specs.Grid.{grid, Coupled};
-ghost use Rattle.corrector.specs.Metrics.{metricsOf, metricsAnswer, metricsNumbers};
+ghost use Rattle.stencil.specs.Lent.{lentNow, lentBefore, Buildable};
+ghost use Rattle.stencil.specs.Stencil.{stencilAnswer, stencilSlices};
+ghost use Rattle.coupling.specs.Grid.{grid, gridLent, Coupled};
+ghost use Rattle.predictor.specs.Boundary.{Bounded, Begun, boundaryAnswer, boundaryCoefficients};
 ghost use Rattle.predictor.specs.Prediction.{flow, Flowing, predictionAnswer, predictedFluxes};
-ghost use Rattle.step.specs.Call.{handed, IfAccepted, cleared, results, OutputsFit};
-ghost use Rattle.scheme.specs.Step.{alike, finiteAnswer, workAnswer, Lendable};
+ghost use Rattle.corrector.specs.Correction.{correcting, Correctable, correctionAnswer, correctedFluxes};
+ghost use Rattle.corrector.specs.Metrics.{metricsOf, metricsAnswer, metricsNumbers};
+ghost use Rattle.scheme.specs.Step.{finiteAnswer, workAnswer, Lendable};
+ghost use Rattle.step.specs.Call.{IfAccepted, cleared, results, OutputsFit};
+ghost use Rattle.step.specs.Lent.{alikeLent, outputsBefore, outputsAfter, meshNow, alikeNow, outputsNow};
 use mesh::Answer;
 use mesh::Counts;
 
@@ -43,9 +46,14 @@ fn measure(
     metrics: &mut [f64],
 ) -> Answer
     requires { ⌜ Flows (length (now outflow)) (now adjacency) (now flux) ⌝ }
-    requires { ⌜ (length (now places) ≡ 4 * length (now outflow)) × (length (now outflow) ≤ 65535) × (length (now metrics) ≡ 2) ⌝ }
-    ensures { λ r. ⌜ r ≡ orElse (metricsAnswer (metricsOf (now (places .entry)) (outflows (length (now (outflow .entry))) (now (adjacency .entry)) (now (flux .entry))))) (finiteAnswer (outflows (length (now (outflow .entry))) (now (adjacency .entry)) (now (flux .entry)))) ⌝ }
-    ensures { λ r. ⌜ IfAccepted r ((now (outflow .exit) ≡ outflows (length (now (outflow .entry))) (now (adjacency .entry)) (now (flux .entry))) × (now (metrics .exit) ≡ metricsNumbers (metricsOf (now (places .entry)) (outflows (length (now (outflow .entry))) (now (adjacency .entry)) (now (flux .entry)))))) ⌝ }
+    requires { ⌜ (length (now places) ≡ 4 * length (now outflow)) × (length (now outflow) ≤ largestCount) × (length (now metrics) ≡ 2) ⌝ }
+    ensures answer { λ r.
+        let sums = outflows (length (now (outflow .entry))) (now (adjacency .entry)) (now (flux .entry)) in
+        ⌜ r ≡ orElse (metricsAnswer (metricsOf (now (places .entry)) sums)) (finiteAnswer sums) ⌝ }
+    ensures contents { λ r.
+        let sums = outflows (length (now (outflow .entry))) (now (adjacency .entry)) (now (flux .entry)) in
+        let metric = metricsOf (now (places .entry)) sums in
+        ⌜ IfAccepted r ((now (outflow .exit) ≡ sums) × (now (metrics .exit) ≡ metricsNumbers metric)) ⌝ }
 {
     let a = corrector::inner::metrics::continuity_metrics(
         adjacency,
@@ -77,10 +85,26 @@ fn correct(
     requires { ⌜ Coupled (grid (now adjacency) (now geometry) (now places)) (length (now responses)) (length (now coefficients)) ⌝ }
     requires { ⌜ Bounded (bounds (now codes) (now values)) (length (now coefficients)) ⌝ }
     requires { ⌜ Begun (grid (now adjacency) (now geometry) (now places)) (now responses) (now coefficients) ⌝ }
-    requires { ⌜ Correctable (correcting (now adjacency) (now codes) (now values) (now predicted) (now coefficients) (now corrections)) ⌝ }
+    requires correctable {
+        let lent = correcting (now adjacency) (now codes) (now values) in
+        ⌜ Correctable (lent (now predicted) (now coefficients) (now corrections)) ⌝ }
     requires { ⌜ length (now flux) ≡ length (now predicted) ⌝ }
-    ensures { λ r. ⌜ r ≡ orElse (boundaryAnswer (grid (now (adjacency .entry)) (now (geometry .entry)) (now (places .entry))) (bounds (now (codes .entry)) (now (values .entry))) (now (responses .entry)) (length (now (coefficients .entry)))) (correctionAnswer (correcting (now (adjacency .entry)) (now (codes .entry)) (now (values .entry)) (now (predicted .entry)) (boundaryCoefficients (grid (now (adjacency .entry)) (now (geometry .entry)) (now (places .entry))) (bounds (now (codes .entry)) (now (values .entry))) (now (responses .entry)) (length (now (coefficients .entry)))) (now (corrections .entry)))) ⌝ }
-    ensures { λ r. ⌜ IfAccepted r ((now (coefficients .exit) ≡ boundaryCoefficients (grid (now (adjacency .entry)) (now (geometry .entry)) (now (places .entry))) (bounds (now (codes .entry)) (now (values .entry))) (now (responses .entry)) (length (now (coefficients .entry)))) × (now (flux .exit) ≡ correctedFluxes (correcting (now (adjacency .entry)) (now (codes .entry)) (now (values .entry)) (now (predicted .entry)) (boundaryCoefficients (grid (now (adjacency .entry)) (now (geometry .entry)) (now (places .entry))) (bounds (now (codes .entry)) (now (values .entry))) (now (responses .entry)) (length (now (coefficients .entry)))) (now (corrections .entry))))) ⌝ }
+    ensures answer { λ r.
+        let m = gridLent adjacency geometry places in
+        let k = boundsLent codes values in
+        let n = length (now (coefficients .entry)) in
+        let c = boundaryCoefficients m k (now (responses .entry)) n in
+        let lent = correcting (now (adjacency .entry)) (now (codes .entry)) (now (values .entry)) in
+        let x = lent (now (predicted .entry)) c (now (corrections .entry)) in
+        ⌜ r ≡ orElse (boundaryAnswer m k (now (responses .entry)) n) (correctionAnswer x) ⌝ }
+    ensures contents { λ r.
+        let m = gridLent adjacency geometry places in
+        let k = boundsLent codes values in
+        let n = length (now (coefficients .entry)) in
+        let c = boundaryCoefficients m k (now (responses .entry)) n in
+        let lent = correcting (now (adjacency .entry)) (now (codes .entry)) (now (values .entry)) in
+        let x = lent (now (predicted .entry)) c (now (corrections .entry)) in
+        ⌜ IfAccepted r ((now (coefficients .exit) ≡ c) × (now (flux .exit) ≡ correctedFluxes x)) ⌝ }
 {
     let a = predictor::inner::boundary::complete(
         adjacency,
@@ -130,14 +154,41 @@ fn predict(
     gradient: &mut [f64],
     predicted: &mut [f64],
 ) -> Answer
-    requires { ⌜ Good (lent counts (now adjacency) (now geometry) (now heads) (now places) (now facing) (now bordering) (now codes) (now values)) ⌝ }
-    requires { ⌜ (length (now starts) ≡ counts .cells) × (length (now equations) ≡ 2 * records) × (length (now weights) ≡ 4 * records) × (length (now inverses) ≡ 9 * (counts .cells)) × (records < 65536) ⌝ }
-    requires { ⌜ Flowing (grid (now adjacency) (now geometry) (now places)) (flow (now velocities) (now pressures) (now gradient) (now responses)) (length (now walls)) ⌝ }
-    requires { ⌜ (length (now pressures) ≡ counts .cells) × (length (now predicted) ≡ length (now walls)) × (length (now coefficients) ≡ length (now walls)) ⌝ }
-    ensures { λ r. ⌜ r ≡ orElse (stencilAnswer (lent counts (now (adjacency .entry)) (now (geometry .entry)) (now (heads .entry)) (now (places .entry)) (now (facing .entry)) (now (bordering .entry)) (now (codes .entry)) (now (values .entry))) records) (predictionAnswer (grid (now (adjacency .entry)) (now (geometry .entry)) (now (places .entry))) (flow (now (velocities .entry)) (now (pressures .entry)) (gradients (slices (stencilStarts (lent counts (now (adjacency .entry)) (now (geometry .entry)) (now (heads .entry)) (now (places .entry)) (now (facing .entry)) (now (bordering .entry)) (now (codes .entry)) (now (values .entry))) records) (stencilEquations (lent counts (now (adjacency .entry)) (now (geometry .entry)) (now (heads .entry)) (now (places .entry)) (now (facing .entry)) (now (bordering .entry)) (now (codes .entry)) (now (values .entry))) records) (stencilWeights (lent counts (now (adjacency .entry)) (now (geometry .entry)) (now (heads .entry)) (now (places .entry)) (now (facing .entry)) (now (bordering .entry)) (now (codes .entry)) (now (values .entry))) records) (stencilInverses (lent counts (now (adjacency .entry)) (now (geometry .entry)) (now (heads .entry)) (now (places .entry)) (now (facing .entry)) (now (bordering .entry)) (now (codes .entry)) (now (values .entry))) records)) records (now (pressures .entry)) (length (now (pressures .entry)))) (now (responses .entry))) (now (walls .entry))) ⌝ }
-    ensures { λ r. ⌜ IfAccepted r ((now (starts .exit) ≡ stencilStarts (lent counts (now (adjacency .entry)) (now (geometry .entry)) (now (heads .entry)) (now (places .entry)) (now (facing .entry)) (now (bordering .entry)) (now (codes .entry)) (now (values .entry))) records) × (now (equations .exit) ≡ stencilEquations (lent counts (now (adjacency .entry)) (now (geometry .entry)) (now (heads .entry)) (now (places .entry)) (now (facing .entry)) (now (bordering .entry)) (now (codes .entry)) (now (values .entry))) records) × (now (weights .exit) ≡ stencilWeights (lent counts (now (adjacency .entry)) (now (geometry .entry)) (now (heads .entry)) (now (places .entry)) (now (facing .entry)) (now (bordering .entry)) (now (codes .entry)) (now (values .entry))) records) × (now (inverses .exit) ≡ stencilInverses (lent counts (now (adjacency .entry)) (now (geometry .entry)) (now (heads .entry)) (now (places .entry)) (now (facing .entry)) (now (bordering .entry)) (now (codes .entry)) (now (values .entry))) records)) ⌝ }
-    ensures { λ r. ⌜ IfAccepted r ((now (gradient .exit) ≡ gradients (slices (stencilStarts (lent counts (now (adjacency .entry)) (now (geometry .entry)) (now (heads .entry)) (now (places .entry)) (now (facing .entry)) (now (bordering .entry)) (now (codes .entry)) (now (values .entry))) records) (stencilEquations (lent counts (now (adjacency .entry)) (now (geometry .entry)) (now (heads .entry)) (now (places .entry)) (now (facing .entry)) (now (bordering .entry)) (now (codes .entry)) (now (values .entry))) records) (stencilWeights (lent counts (now (adjacency .entry)) (now (geometry .entry)) (now (heads .entry)) (now (places .entry)) (now (facing .entry)) (now (bordering .entry)) (now (codes .entry)) (now (values .entry))) records) (stencilInverses (lent counts (now (adjacency .entry)) (now (geometry .entry)) (now (heads .entry)) (now (places .entry)) (now (facing .entry)) (now (bordering .entry)) (now (codes .entry)) (now (values .entry))) records)) records (now (pressures .entry)) (length (now (pressures .entry)))) × (now (predicted .exit) ≡ predictedFluxes (grid (now (adjacency .entry)) (now (geometry .entry)) (now (places .entry))) (flow (now (velocities .entry)) (now (pressures .entry)) (gradients (slices (stencilStarts (lent counts (now (adjacency .entry)) (now (geometry .entry)) (now (heads .entry)) (now (places .entry)) (now (facing .entry)) (now (bordering .entry)) (now (codes .entry)) (now (values .entry))) records) (stencilEquations (lent counts (now (adjacency .entry)) (now (geometry .entry)) (now (heads .entry)) (now (places .entry)) (now (facing .entry)) (now (bordering .entry)) (now (codes .entry)) (now (values .entry))) records) (stencilWeights (lent counts (now (adjacency .entry)) (now (geometry .entry)) (now (heads .entry)) (now (places .entry)) (now (facing .entry)) (now (bordering .entry)) (now (codes .entry)) (now (values .entry))) records) (stencilInverses (lent counts (now (adjacency .entry)) (now (geometry .entry)) (now (heads .entry)) (now (places .entry)) (now (facing .entry)) (now (bordering .entry)) (now (codes .entry)) (now (values .entry))) records)) records (now (pressures .entry)) (length (now (pressures .entry)))) (now (responses .entry))) (now (walls .entry)))) ⌝ }
-    ensures { λ r. ⌜ IfAccepted r (Begun (grid (now (adjacency .entry)) (now (geometry .entry)) (now (places .entry))) (now (responses .entry)) (now (coefficients .exit))) ⌝ }
+    requires { ⌜ Buildable (lentNow counts adjacency geometry heads places facing bordering codes values) ⌝ }
+    requires sized {
+        ⌜ (length (now starts) ≡ counts .cells)
+        × (length (now equations) ≡ 2 * records)
+        × (length (now weights) ≡ 4 * records)
+        × (length (now inverses) ≡ 9 * (counts .cells))
+        × (records ≤ largestCount) ⌝ }
+    requires flowing {
+        let m = grid (now adjacency) (now geometry) (now places) in
+        let q = flow (now velocities) (now pressures) (now gradient) (now responses) in
+        ⌜ Flowing m q (length (now walls)) ⌝ }
+    requires long {
+        ⌜ (length (now pressures) ≡ counts .cells)
+        × (length (now predicted) ≡ length (now walls))
+        × (length (now coefficients) ≡ length (now walls)) ⌝ }
+    ensures answer { λ r.
+        let l = lentBefore counts adjacency geometry heads places facing bordering codes values in
+        let m = gridLent adjacency geometry places in
+        let p = now (pressures .entry) in
+        let g = gradients (stencilSlices l records) records p (length p) in
+        let q = flow (now (velocities .entry)) p g (now (responses .entry)) in
+        ⌜ r ≡ orElse (stencilAnswer l records) (predictionAnswer m q (now (walls .entry))) ⌝ }
+    ensures stencil { λ r.
+        let l = lentBefore counts adjacency geometry heads places facing bordering codes values in
+        ⌜ IfAccepted r (slicesAfter starts equations weights inverses ≡ stencilSlices l records) ⌝ }
+    ensures contents { λ r.
+        let l = lentBefore counts adjacency geometry heads places facing bordering codes values in
+        let m = gridLent adjacency geometry places in
+        let p = now (pressures .entry) in
+        let g = gradients (stencilSlices l records) records p (length p) in
+        let q = flow (now (velocities .entry)) p g (now (responses .entry)) in
+        ⌜ IfAccepted r ((now (gradient .exit) ≡ g) × (now (predicted .exit) ≡ predictedFluxes m q (now (walls .entry)))) ⌝ }
+    ensures begun { λ r.
+        let m = gridLent adjacency geometry places in
+        ⌜ IfAccepted r (Begun m (now (responses .entry)) (now (coefficients .exit))) ⌝ }
 {
     let a = stencil::inner::build::least_squares_stencil(
         counts,
@@ -205,10 +256,21 @@ fn run(
     outflow: &mut [f64],
     metrics: &mut [f64],
 ) -> Answer
-    requires { ⌜ Lendable (alike (mesh counts (now adjacency) (now geometry) (now heads) (now places) (now facing) (now bordering)) (now codes) (now values) records (now velocities) (now pressures) (now responses) (now walls) (now corrections)) ⌝ }
-    requires { ⌜ OutputsFit counts records (handed (now starts) (now equations) (now weights) (now inverses) (now gradient) (now predicted) (now coefficients) (now flux) (now outflow) (now metrics)) ⌝ }
-    ensures { λ r. ⌜ r ≡ workAnswer (alike (mesh counts (now (adjacency .entry)) (now (geometry .entry)) (now (heads .entry)) (now (places .entry)) (now (facing .entry)) (now (bordering .entry))) (now (codes .entry)) (now (values .entry)) records (now (velocities .entry)) (now (pressures .entry)) (now (responses .entry)) (now (walls .entry)) (now (corrections .entry))) ⌝ }
-    ensures { λ r. ⌜ IfAccepted r ((handed (now (starts .exit)) (now (equations .exit)) (now (weights .exit)) (now (inverses .exit)) (now (gradient .exit)) (now (predicted .exit)) (now (coefficients .exit)) (now (flux .exit)) (now (outflow .exit)) (now (metrics .exit))) ≡ results (alike (mesh counts (now (adjacency .entry)) (now (geometry .entry)) (now (heads .entry)) (now (places .entry)) (now (facing .entry)) (now (bordering .entry))) (now (codes .entry)) (now (values .entry)) records (now (velocities .entry)) (now (pressures .entry)) (now (responses .entry)) (now (walls .entry)) (now (corrections .entry)))) ⌝ }
+    requires lendable {
+        let m = meshNow counts adjacency geometry heads places facing bordering in
+        ⌜ Lendable (alikeNow m codes values records velocities pressures responses walls corrections) ⌝ }
+    requires fit {
+        let old = outputsNow starts equations weights inverses gradient predicted coefficients flux outflow metrics in
+        ⌜ OutputsFit counts records old ⌝ }
+    ensures answer { λ r.
+        let m = meshLent counts adjacency geometry heads places facing bordering in
+        let d = alikeLent m codes values records velocities pressures responses walls corrections in
+        ⌜ r ≡ workAnswer d ⌝ }
+    ensures contents { λ r.
+        let m = meshLent counts adjacency geometry heads places facing bordering in
+        let d = alikeLent m codes values records velocities pressures responses walls corrections in
+        let new = outputsAfter starts equations weights inverses gradient predicted coefficients flux outflow metrics in
+        ⌜ IfAccepted r (new ≡ results d) ⌝ }
 {
     let a = predict(
         counts,
@@ -269,7 +331,10 @@ fn clear(
     outflow: &mut [f64],
     metrics: &mut [f64],
 )
-    ensures { λ _. ⌜ (handed (now (starts .exit)) (now (equations .exit)) (now (weights .exit)) (now (inverses .exit)) (now (gradient .exit)) (now (predicted .exit)) (now (coefficients .exit)) (now (flux .exit)) (now (outflow .exit)) (now (metrics .exit))) ≡ cleared (handed (now (starts .entry)) (now (equations .entry)) (now (weights .entry)) (now (inverses .entry)) (now (gradient .entry)) (now (predicted .entry)) (now (coefficients .entry)) (now (flux .entry)) (now (outflow .entry)) (now (metrics .entry))) ⌝ }
+    ensures contents { λ _.
+        let old = outputsBefore starts equations weights inverses gradient predicted coefficients flux outflow metrics in
+        let new = outputsAfter starts equations weights inverses gradient predicted coefficients flux outflow metrics in
+        ⌜ new ≡ cleared old ⌝ }
 {
     mesh::clear_numbers(starts);
     mesh::clear_numbers(equations);
@@ -311,10 +376,22 @@ pub(crate) fn carry_out(
     outflow: &mut [f64],
     metrics: &mut [f64],
 ) -> Answer
-    requires { ⌜ Lendable (alike (mesh counts (now adjacency) (now geometry) (now heads) (now places) (now facing) (now bordering)) (now codes) (now values) records (now velocities) (now pressures) (now responses) (now walls) (now corrections)) ⌝ }
-    requires { ⌜ OutputsFit counts records (handed (now starts) (now equations) (now weights) (now inverses) (now gradient) (now predicted) (now coefficients) (now flux) (now outflow) (now metrics)) ⌝ }
-    ensures { λ r. ⌜ r ≡ workAnswer (alike (mesh counts (now (adjacency .entry)) (now (geometry .entry)) (now (heads .entry)) (now (places .entry)) (now (facing .entry)) (now (bordering .entry))) (now (codes .entry)) (now (values .entry)) records (now (velocities .entry)) (now (pressures .entry)) (now (responses .entry)) (now (walls .entry)) (now (corrections .entry))) ⌝ }
-    ensures { λ r. ⌜ (handed (now (starts .exit)) (now (equations .exit)) (now (weights .exit)) (now (inverses .exit)) (now (gradient .exit)) (now (predicted .exit)) (now (coefficients .exit)) (now (flux .exit)) (now (outflow .exit)) (now (metrics .exit))) ≡ ifRefused r (cleared (handed (now (starts .entry)) (now (equations .entry)) (now (weights .entry)) (now (inverses .entry)) (now (gradient .entry)) (now (predicted .entry)) (now (coefficients .entry)) (now (flux .entry)) (now (outflow .entry)) (now (metrics .entry)))) (results (alike (mesh counts (now (adjacency .entry)) (now (geometry .entry)) (now (heads .entry)) (now (places .entry)) (now (facing .entry)) (now (bordering .entry))) (now (codes .entry)) (now (values .entry)) records (now (velocities .entry)) (now (pressures .entry)) (now (responses .entry)) (now (walls .entry)) (now (corrections .entry)))) ⌝ }
+    requires lendable {
+        let m = meshNow counts adjacency geometry heads places facing bordering in
+        ⌜ Lendable (alikeNow m codes values records velocities pressures responses walls corrections) ⌝ }
+    requires fit {
+        let old = outputsNow starts equations weights inverses gradient predicted coefficients flux outflow metrics in
+        ⌜ OutputsFit counts records old ⌝ }
+    ensures answer { λ r.
+        let m = meshLent counts adjacency geometry heads places facing bordering in
+        let d = alikeLent m codes values records velocities pressures responses walls corrections in
+        ⌜ r ≡ workAnswer d ⌝ }
+    ensures contents { λ r.
+        let m = meshLent counts adjacency geometry heads places facing bordering in
+        let d = alikeLent m codes values records velocities pressures responses walls corrections in
+        let old = outputsBefore starts equations weights inverses gradient predicted coefficients flux outflow metrics in
+        let new = outputsAfter starts equations weights inverses gradient predicted coefficients flux outflow metrics in
+        ⌜ new ≡ ifRefused r (cleared old) (results d) ⌝ }
 {
     let a = run(
         counts,

@@ -203,7 +203,7 @@ module _ {M : Type 1} (𝓤 : URA M) (H : Heap 𝓤) (A : Atoms 𝓤) (W : Given
   exits zs a w room e checked is =
       qed W (‵ (Seen zs) ∷ ‵ (fbor κ₅ (Held T.the-row (length zs) b o γ)) ∷ ‵ (flft κ₅ q₅) ∷ Tok ∷ ‵ (R.the-row .own a (w ∷ [])) ∷ []) ∵
       suffices ! _ (ends-at 𝓤 H A f.ended stayed (f.clauses 𝓤 H A at-mem run) W ((κs, qs, tt, x, vals), tt) w a (tt, (tt, (tt, (tt, (tt, (tt, (tt, (tt, (tt, (zs, tt)))))))))) (tt, (tt, (tt, (tt, (tt, (tt, (tt, (tt, (tt, (e, tt))))))))))) $
-      suffices ! _ (assoc∗ 𝓤 (onExit 𝓤 H A f.ended stayed κs qs vals w a x (tt, (tt, (tt, (tt, (tt, (tt, (tt, (tt, (tt, (zs, tt))))))))))) (fact 𝓤 (Is-checked a)) (fact 𝓤 (zs ≡ ifRefused a ys (vectors (gradients s rec (F .now) (n .cells)))))) $ says ! is $ says ! checked $
+      says ! (record { answer = checked; out = is }) $
       move ! (3 ∷ 2 ∷ []) $ use2 W (Six 𝓤 κ₀ κ₁ κ₂ κ₃ κ₄ q₀ q₁ q₂ q₃ q₄ κ₅ q₅) (token-in 𝓤 κ₀ κ₁ κ₂ κ₃ κ₄ q₀ q₁ q₂ q₃ q₄ H A W κ₅ q₅) $ frame ! $
       fjoin ! $ pureI ! (at-slice T.the-row (out zs) (vo ∷ [])) (tt, (tt, tt)) (ap (λ (k : ℕ). sliceVal (b, o) k ∷ []) (sym e), subst (Room T.the-row) (sym e) room) $ fjoin ! $ nothing ! $ move ! (1 ∷ 0 ∷ []) $ fjoin ! $
       nothing ! $ fjoin ! $ nothing ! $ fjoin ! $ nothing ! $ fjoin ! $ nothing ! $ fjoin ! $ nothing ! $ fjoin ! $ nothing ! $ fjoin ! $ nothing ! $ fjoin ! $ nothing ! $ fjoin ! $ nothing ! $ fjoin ! $

@@ -3,6 +3,7 @@ use Rattle.step.specs.Call.{stepChecks}
 use Rattle.mesh.specs.Answers.{orElse}
 use Rattle.step.proofs.Passed.{refused-first}
 use mathlib.Core.Path.{_≡_, sym, _∙_}
+use Rattle.mesh.proofs.Facts.{shape-first}
 use borrow.Author.Needs.{needs}
 use Rattle.step.proofs.check_step.Statement.{statement}
 use Rattle.step.proofs.check_step.Tie as tie
@@ -67,7 +68,7 @@ returns c =
     let k = conditionsAt f in
     let m = meshAt k in
     let t = l .check-topology .ensures in
-    rw (← z .sizes-ok .ensures, ← m .mesh-sized .ensures, ← k .conditions-sized .ensures, ← f .fields-sized .ensures, ← o .outputs-sized .ensures, ← h .shape .ensures, e .enum-told .given .1) t
+    rw (shape-first _ _ _ _, ← z .sizes-ok .ensures, ← m .mesh-sized .ensures, ← k .conditions-sized .ensures, ← f .fields-sized .ensures, ← o .outputs-sized .ensures, ← h .shape .ensures, e .enum-told .given .1) t
 
 returns-2 : tie.Need-returns-2
 unfolding stepChecks orElse
@@ -78,7 +79,7 @@ returns-2 c =
     let f = fieldsAt o in
     let k = conditionsAt f in
     let m = meshAt k in
-    rw (← z .sizes-ok .ensures, ← m .mesh-sized .ensures, ← k .conditions-sized .ensures, ← f .fields-sized .ensures, ← o .outputs-sized .ensures) (refused-first _ _ _ _ (sym (h .shape .ensures) ∙ c .before .a .given .1))
+    rw (shape-first _ _ _ _, ← z .sizes-ok .ensures, ← m .mesh-sized .ensures, ← k .conditions-sized .ensures, ← f .fields-sized .ensures, ← o .outputs-sized .ensures) (refused-first _ _ _ _ (sym (h .shape .ensures) ∙ c .before .a .given .1))
 
 pub check-step-spec : {M : Type 1} → statement M
 check-step-spec =

@@ -3,8 +3,9 @@ use Rattle.step.proofs.Outputs.{delivered}
 use Rattle.step.proofs.Passed.{passed, refused-first, same-work, ready-numbered}
 use Rattle.passes.proofs.Stages.{never-accepted}
 use Rattle.coupling.specs.Grid.{field}
+use Rattle.numerics.specs.Slices.{slices}
 use Rattle.step.specs.Call.{Handed, handed, OutputsFit}
-use Rattle.scheme.specs.Step.{Given, given, Lendable}
+use Rattle.scheme.specs.Step.{Inputs, inputs, Lendable}
 use Rattle.mesh.specs.Answers.{orElse}
 use Rattle.mesh.specs.Mesh.{mesh, conditions}
 use Rattle.mesh.specs.Pass.{ifRefused}
@@ -29,14 +30,14 @@ checkedAt c = search
 abbrev toldAt : tie.After-carry-out → tie.After-enum-told
 toldAt c = search
 
-abbrev givenAt : tie.Start → Given
-givenAt s =
-    given (mesh (s .args .counts) (now (s .args .adjacency)) (now (s .args .geometry)) (now (s .args .heads)) (now (s .args .places)) (now (s .args .facing)) (now (s .args .bordering)))
+abbrev inputsAt : tie.Start → Inputs
+inputsAt s =
+    inputs (mesh (s .args .counts) (now (s .args .adjacency)) (now (s .args .geometry)) (now (s .args .heads)) (now (s .args .places)) (now (s .args .facing)) (now (s .args .bordering)))
     (conditions (s .args .number) (now (s .args .codes)) (now (s .args .values))) (s .args .records)
     (field (s .args .velocity) (now (s .args .velocities))) (field (s .args .pressure) (now (s .args .pressures))) (field (s .args .response) (now (s .args .responses))) (field (s .args .wall) (now (s .args .walls))) (field (s .args .correction) (now (s .args .corrections)))
 
 abbrev oldAt : tie.Start → Handed
-oldAt s = handed (now (s .args .starts)) (now (s .args .equations)) (now (s .args .weights)) (now (s .args .inverses)) (now (s .args .gradient)) (now (s .args .predicted)) (now (s .args .coefficients)) (now (s .args .flux)) (now (s .args .outflow)) (now (s .args .metrics))
+oldAt s = handed (slices (now (s .args .starts)) (now (s .args .equations)) (now (s .args .weights)) (now (s .args .inverses))) (now (s .args .gradient)) (now (s .args .predicted)) (now (s .args .coefficients)) (now (s .args .flux)) (now (s .args .outflow)) (now (s .args .metrics))
 
 check-step-requires : tie.Need-check-step-requires
 check-step-requires c κs = search needs
@@ -49,8 +50,8 @@ carry-out-requires c κs =
     let e : tie.After-enum-told = search in
     let k = checkedAt e in
     let s = startAt k in
-    let p = passed (givenAt s) (oldAt s) _ (k .check-step .ensures) (e .enum-told .given .1) in
-    (ready-numbered (givenAt s) (p .0), p .1)
+    let p = passed (inputsAt s) (oldAt s) _ (k .check-step .ensures) (e .enum-told .given .1) in
+    (ready-numbered (inputsAt s) (p .0), p .1)
 
 enum-known-a : tie.Need-enum-known-a
 enum-known-a c = search needs
@@ -92,7 +93,7 @@ returns c =
     let e = toldAt w in
     let k = checkedAt e in
     let s = startAt k in
-    let d = givenAt s in
+    let d = inputsAt s in
     let p = passed d (oldAt s) _ (k .check-step .ensures) (e .enum-told .given .1) in
     let a = sym (k .check-step .ensures) ∙ e .enum-told .given .1 in
     let r = w .carry-out .ensures .0 ∙ same-work d in (

@@ -1,6 +1,7 @@
 -- `step::work::carry_out` meets its contract: the parts, and the clearing after a refusal.
 use Rattle.step.proofs.Outputs.{same-cleared}
 use Rattle.mesh.specs.Pass.{ifRefused}
+use Rattle.numerics.specs.Slices.{slices}
 use Rattle.step.specs.Call.{Handed, handed}
 use denote.Ref.{now}
 use mathlib.Core.Path.{_≡_, sym, _∙_}
@@ -16,12 +17,12 @@ startAt c = firstAt (c .before)
 
 -- the outputs at the call, and after the parts
 abbrev oldAt : tie.Start → Handed
-oldAt s = handed (now (s .args .starts)) (now (s .args .equations)) (now (s .args .weights)) (now (s .args .inverses)) (now (s .args .gradient)) (now (s .args .predicted)) (now (s .args .coefficients)) (now (s .args .flux)) (now (s .args .outflow)) (now (s .args .metrics))
+oldAt s = handed (slices (now (s .args .starts)) (now (s .args .equations)) (now (s .args .weights)) (now (s .args .inverses))) (now (s .args .gradient)) (now (s .args .predicted)) (now (s .args .coefficients)) (now (s .args .flux)) (now (s .args .outflow)) (now (s .args .metrics))
 
 abbrev ranTo : tie.After-run → Handed
 ranTo c =
     let l = c .run .last .1 .1 .1 .1 .1 .1 .1 .1 .1 .1 .1 .1 .1 .1 .1 in
-    handed (l .0) (l .1 .0) (l .1 .1 .0) (l .1 .1 .1 .0) (l .1 .1 .1 .1 .0) (l .1 .1 .1 .1 .1 .0) (l .1 .1 .1 .1 .1 .1 .0) (l .1 .1 .1 .1 .1 .1 .1 .0) (l .1 .1 .1 .1 .1 .1 .1 .1 .0) (l .1 .1 .1 .1 .1 .1 .1 .1 .1 .0)
+    handed (slices (l .0) (l .1 .0) (l .1 .1 .0) (l .1 .1 .1 .0)) (l .1 .1 .1 .1 .0) (l .1 .1 .1 .1 .1 .0) (l .1 .1 .1 .1 .1 .1 .0) (l .1 .1 .1 .1 .1 .1 .1 .0) (l .1 .1 .1 .1 .1 .1 .1 .1 .0) (l .1 .1 .1 .1 .1 .1 .1 .1 .1 .0)
 
 abbrev ranAt : tie.After-a → tie.After-run
 ranAt c = search

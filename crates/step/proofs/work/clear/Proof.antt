@@ -1,5 +1,5 @@
 -- `step::work::clear` meets its contract: every output in turn.
-use Rattle.step.proofs.Outputs.{same-handed}
+use Rattle.step.proofs.Outputs.{same-handed, same-slices}
 use borrow.Author.Needs.{needs}
 use Rattle.step.proofs.work.clear.Statement.{statement}
 use Rattle.step.proofs.work.clear.Tie as tie
@@ -76,7 +76,7 @@ returns c =
     let w : tie.After-clear = search in
     let e : tie.After-clear-numbers2 = search in
     let s : tie.After-clear-numbers = search in
-    same-handed _ _ (s .clear-numbers .ensures) (e .clear-numbers2 .ensures) (w .clear .ensures) (i .clear2 .ensures) (g .clear3 .ensures) (p .clear4 .ensures) (k .clear5 .ensures) (f .clear6 .ensures) (o .clear7 .ensures) (m .clear8 .ensures)
+    same-handed _ _ (same-slices _ _ (s .clear-numbers .ensures) (e .clear-numbers2 .ensures) (w .clear .ensures) (i .clear2 .ensures)) (g .clear3 .ensures) (p .clear4 .ensures) (k .clear5 .ensures) (f .clear6 .ensures) (o .clear7 .ensures) (m .clear8 .ensures)
 
 pub clear-spec : {M : Type 1} → statement M
 clear-spec =

@@ -1,6 +1,6 @@
 -- `step::work::predict` meets its contract: the stencil, and the flux predicted by it.
 use Rattle.passes.proofs.Stages.{handed-out, never-accepted}
-use Rattle.scheme.proofs.Parts.{begun, same-slices, sloped}
+use Rattle.scheme.proofs.Parts.{begun, sloped}
 use Rattle.coupling.specs.Grid.{Grid, grid}
 use Rattle.predictor.specs.Prediction.{Flow, flow, predictionAnswer, predictedFluxes}
 use Rattle.numerics.specs.Slices.{Slices, slices}
@@ -52,7 +52,7 @@ rhie-chow-predicted-flux-requires c κs =
     let x = a .least-squares-stencil .ensures in
     let n = a .least-squares-stencil .kept .1 .1 .1 .1 .1 .1 .1 .1 .1 .1 in
     let z = s .pre .1 .0 in (
-      sloped (lentAt s) (s .args .records) _ _ _ _ (now (s .args .pressures)) (s .pre .0) (sym (x .0) ∙ e .enum-told .given .1) (x .1 .0) (x .1 .1 .0) (n .0 ∙ z .0) (n .1 .0 ∙ z .1) (n .1 .1 .0 ∙ z .2) (n .1 .1 .1 .0 ∙ z .3) (s .pre .1 .1 .1 .0),
+      sloped (lentAt s) (s .args .records) _ (now (s .args .pressures)) (s .pre .0) (sym (x .0) ∙ e .enum-told .given .1) (x .1) (n .0 ∙ z .0) (n .1 .0 ∙ z .1) (n .1 .1 .0 ∙ z .2) (n .1 .1 .1 .0 ∙ z .3) (s .pre .1 .1 .1 .0),
       (s .pre .1 .1 .0, s .pre .1 .1 .1 .1),
     )
 
@@ -89,11 +89,11 @@ returns c =
     let s = startAt a in
     let x = a .least-squares-stencil .ensures in
     let y = f .rhie-chow-predicted-flux .ensures in
-    let t = same-slices _ _ _ _ _ _ _ _ (x .1 .0) (x .1 .1 .0) (x .1 .1 .1 .0) (x .1 .1 .1 .1) in
+    let t = x .1 in
     let walls = now (s .args .walls) in (
       rw (sym (x .0) ∙ e .enum-told .given .1) (y .0 ∙ ap (λ (t : Slices). predictionAnswer (gridAt s) (flowBy s t) walls) t),
       (
-        λ _. (x .1 .0, x .1 .1 .0, x .1 .1 .1 .0, x .1 .1 .1 .1),
+        λ _. t,
         (
           λ ok. (y .1 .0 ∙ handed-out _ _ _ ok ∙ ap (slopesBy s) t, y .1 .1 .0 ∙ handed-out _ _ _ ok ∙ ap (λ (t : Slices). predictedFluxes (gridAt s) (flowBy s t) walls) t),
           λ ok. begun (gridAt s) _ walls _ (sym (y .0) ∙ ok) (f .rhie-chow-predicted-flux .kept .1 .1 .1 .1 .1 .1 .1 .1 .1 .1 .1 .1 .0 ∙ s .pre .1 .1 .1 .2) (y .1 .1 .1 (s .pre .1 .1 .1 .2) ok),

@@ -3,7 +3,7 @@ use Rattle.passes.proofs.Stages.{never-accepted}
 use Rattle.step.proofs.Outputs.{same-handed}
 use Rattle.scheme.proofs.Parts.{predicted-size, lent-stencil, coupled, bounded, flowing, gradient-is, predicted-is, prediction-is, correctable-by, correction-is, coefficients-is, fluxes-is, flows-by, outflows-is, ends-first, ends-second, ends-last}
 use Rattle.corrector.specs.Metrics.{metricsOf, metricsNumbers}
-use Rattle.scheme.specs.Step.{Given, alike, predictedOf, fluxesOf}
+use Rattle.scheme.specs.Step.{Inputs, alike, predictedOf, fluxesOf}
 use Rattle.mesh.specs.Mesh.{mesh}
 use denote.Ref.{now}
 use lib.Ieee.{Float}
@@ -30,20 +30,20 @@ correctedAt c = search
 abbrev told2At : tie.After-measure → tie.After-enum-told2
 told2At c = search
 
-abbrev givenAt : tie.Start → Given
-givenAt s =
+abbrev inputsAt : tie.Start → Inputs
+inputsAt s =
     alike (mesh (s .args .counts) (now (s .args .adjacency)) (now (s .args .geometry)) (now (s .args .heads)) (now (s .args .places)) (now (s .args .facing)) (now (s .args .bordering)))
     (now (s .args .codes)) (now (s .args .values)) (s .args .records) (now (s .args .velocities)) (now (s .args .pressures)) (now (s .args .responses)) (now (s .args .walls)) (now (s .args .corrections))
 
 predict-requires : tie.Need-predict-requires
 predict-requires c κs =
     let s : tie.Start = search in
-    let d = givenAt s in
+    let d = inputsAt s in
     let ready = s .pre .0 in
     let out = s .pre .1 in (
       lent-stencil d ready,
       (
-        (out .starts, out .equations, out .weights, out .inverses, omega (arith, ready .few)),
+        (out .starts, out .equations, out .weights, out .inverses, ready .few),
         (flowing d ready (now (s .args .gradient)) (out .gradient), (ready .pressure, out .predicted ∙ sym (ready .walls), out .coefficients ∙ sym (ready .walls))),
       ),
     )
@@ -56,7 +56,7 @@ correct-requires c κs =
     let e : tie.After-enum-told = search in
     let a = predictedAt e in
     let s = startAt a in
-    let d = givenAt s in
+    let d = inputsAt s in
     let ready = s .pre .0 in
     let out = s .pre .1 in
     let n = a .predict .kept .1 .1 .1 .1 .1 .1 .1 .1 .1 .1 .1 .1 .1 .1 .0 ∙ out .coefficients in
@@ -78,7 +78,7 @@ measure-requires c κs =
     let e = toldAt b in
     let a = predictedAt e in
     let s = startAt a in
-    let d = givenAt s in
+    let d = inputsAt s in
     let ready = s .pre .0 in
     let out = s .pre .1 in
     let n = a .predict .kept .1 .1 .1 .1 .1 .1 .1 .1 .1 .1 .1 .1 .1 .1 .0 ∙ out .coefficients in
@@ -130,7 +130,7 @@ returns c =
     let e = toldAt b in
     let a = predictedAt e in
     let s = startAt a in
-    let d = givenAt s in
+    let d = inputsAt s in
     let ready = s .pre .0 in
     let out = s .pre .1 in
     let n = a .predict .kept .1 .1 .1 .1 .1 .1 .1 .1 .1 .1 .1 .1 .1 .1 .0 ∙ out .coefficients in
@@ -143,7 +143,7 @@ returns c =
     let z = m .measure .ensures in (
       ends-last d ready _ _ _ _ (prediction-is d ready _ (x .0)) xa (correction-is d ready _ _ _ p n (b .correct .ensures .0)) (t .enum-told2 .given .1) o (z .0),
       λ ok.
-          same-handed _ _ (x .1 .0 xa .0) (x .1 .0 xa .1) (x .1 .0 xa .2) (x .1 .0 xa .3) (x .1 .1 .0 xa .0 ∙ gradient-is d ready) p (y .0 ∙ coefficients-is d ready _ n) f (z .1 ok .0 ∙ o)
+          same-handed _ _ (x .1 .0 xa) (x .1 .1 .0 xa .0 ∙ gradient-is d ready) p (y .0 ∙ coefficients-is d ready _ n) f (z .1 ok .0 ∙ o)
           (z .1 ok .1 ∙ ap (λ (l : List Float). metricsNumbers (metricsOf (now (s .args .places)) l)) o),
     )
 
@@ -178,7 +178,7 @@ returns-2 c =
     let e = toldAt b in
     let a = predictedAt e in
     let s = startAt a in
-    let d = givenAt s in
+    let d = inputsAt s in
     let ready = s .pre .0 in
     let out = s .pre .1 in
     let n = a .predict .kept .1 .1 .1 .1 .1 .1 .1 .1 .1 .1 .1 .1 .1 .1 .0 ∙ out .coefficients in
@@ -215,7 +215,7 @@ returns-3 c =
     let k : tie.After-a = search in
     let a : tie.After-predict = search in
     let s = startAt a in
-    let d = givenAt s in
+    let d = inputsAt s in
     let ready = s .pre .0 in
     (ends-first d ready _ _ _ (prediction-is d ready _ (a .predict .ensures .0)) (k .a .given .1), λ ok. absurd (never-accepted _ _ ok))
 

@@ -1,17 +1,8 @@
 -- An answer as C has it: a number, and an index left behind. Definitions only.
 use mathlib.Core.Path.{_≡_}
 use Prim.Native.Nat.{ℕ}
+use Rattle.mesh.specs.Answers.{numberOf, indexOf}
 use Rattle.mesh.specs.declared.Answer.{Answer}
-use Rattle.mesh.specs.declared.Answer.the-variants.{Accepted, Refused}
-
--- 0 for an accepted call
-unfoldable pub numberOf : Answer → ℕ
-numberOf Accepted = 0
-numberOf (Refused k i) = k
-
-unfoldable pub indexOf : Answer → ℕ
-indexOf Accepted = 0
-indexOf (Refused k i) = i
 
 -- the number and the index are those of the answer that the entry gives
 pub record Told (Gives : Answer → Type 0) (number index : ℕ) : Type 0 where

@@ -1,29 +1,27 @@
 // The library's functions under C names, for C and Rust programs to link. A function that can refuse
 // returns the number of the refusal, 0 where it accepts, and leaves the index in `index`.
 ghost use mathlib.Core.Path.{_≡_};
-ghost use lib.ListN.{length};
 ghost use Rattle.binary64.specs.Root.{root};
-ghost use Rattle.mesh.specs.Answers.{orElse};
-ghost use Rattle.mesh.specs.Mesh.{mesh, conditions};
-ghost use Rattle.mesh.specs.Pass.{handedOut, ifRefused};
+ghost use Rattle.mesh.specs.Answers.{numberOf, indexOf};
+ghost use Rattle.mesh.specs.Lent.{meshLent, conditionsLent};
 ghost use Rattle.mesh.specs.declared.Answer.{Answer};
-ghost use Rattle.numerics.specs.Slices.{slices};
+ghost use Rattle.numerics.specs.Slices.{slicesBefore, slicesAfter};
+ghost use Rattle.numerics.specs.Gradient.{GradientCall};
+ghost use Rattle.numerics.specs.Outflow.{OutflowCall, Scattered};
 ghost use Rattle.stencil.specs.Checks.{StencilCall};
-ghost use Rattle.numerics.specs.Gradient.{gradients, gradientChecks};
-ghost use Rattle.numerics.specs.Outflow.{outflows, outflowChecks};
+ghost use Rattle.coupling.specs.Grid.{gridLent, fieldLent};
 ghost use Rattle.predictor.specs.Boundary.{BoundaryCall};
-ghost use Rattle.predictor.specs.Coefficients.{coefficientChecks, coefficientAnswer, coefficients};
-ghost use Rattle.simple.specs.Corrected.{fields, CorrectionCall, Promised};
-ghost use Rattle.corrector.specs.Diagonal.{diagonalChecks, inverseAnswer, inverses};
-ghost use Rattle.coupling.specs.Grid.{grid, field};
+ghost use Rattle.predictor.specs.Coefficients.{CoefficientCall};
+ghost use Rattle.predictor.specs.Prediction.{flowFieldsLent, PredictionCall};
+ghost use Rattle.corrector.specs.Diagonal.{DiagonalCall};
 ghost use Rattle.corrector.specs.Metrics.{MetricsCall};
-ghost use Rattle.predictor.specs.Prediction.{lent, PredictionCall};
-ghost use Rattle.corrector.specs.Velocity.{velocityChecks, velocityAnswer, correctedVelocities};
+ghost use Rattle.corrector.specs.Velocity.{VelocityCall};
+ghost use Rattle.simple.specs.Corrected.{fieldsLent, CorrectionCall, Promised};
 ghost use Rattle.sentence.specs.Sentence.{SentenceCall};
 ghost use Rattle.scheme.specs.Demand.{Demanded};
-ghost use Rattle.scheme.specs.Step.{given};
-ghost use Rattle.step.specs.Call.{handed, StepCall};
-ghost use Rattle.capi.specs.Told.{numberOf, indexOf, Told};
+ghost use Rattle.step.specs.Call.{StepCall};
+ghost use Rattle.step.specs.Lent.{inputsLent, outputsBefore, outputsAfter};
+ghost use Rattle.capi.specs.Told.{Told};
 use mesh::Answer;
 use mesh::Counts;
 
@@ -81,7 +79,12 @@ pub extern "C" fn juvandeer_least_squares_stencil(
     inverses: &mut [f64],
     index: &mut usize,
 ) -> u64
-    ensures { λ r. ⌜ Told (λ (a : Answer). StencilCall (mesh counts (now (adjacency .entry)) (now (geometry .entry)) (now (heads .entry)) (now (places .entry)) (now (facing .entry)) (now (bordering .entry))) (conditions number (now (codes .entry)) (now (values .entry))) records (slices (now (starts .entry)) (now (equations .entry)) (now (weights .entry)) (now (inverses .entry))) a (slices (now (starts .exit)) (now (equations .exit)) (now (weights .exit)) (now (inverses .exit)))) r (now (index .exit)) ⌝ }
+    ensures told { λ r.
+        let m = meshLent counts adjacency geometry heads places facing bordering in
+        let k = conditionsLent number codes values in
+        let old = slicesBefore starts equations weights inverses in
+        let new = slicesAfter starts equations weights inverses in
+        ⌜ Told (λ (a : Answer). StencilCall m k records old a new) r (now (index .exit)) ⌝ }
 {
     let a = stencil::least_squares_stencil(
         counts,
@@ -119,7 +122,10 @@ pub extern "C" fn juvandeer_least_squares_gradient(
     out: &mut [f64],
     index: &mut usize,
 ) -> u64
-    ensures { λ r. ⌜ Told (λ (a : Answer). (a ≡ gradientChecks counts stencil records (slices (now (starts .entry)) (now (equations .entry)) (now (weights .entry)) (now (inverses .entry))) number (now (field .entry)) (length (now (out .entry)))) × (now (out .exit) ≡ ifRefused a (now (out .entry)) (gradients (slices (now (starts .entry)) (now (equations .entry)) (now (weights .entry)) (now (inverses .entry))) records (now (field .entry)) (counts .cells)))) r (now (index .exit)) ⌝ }
+    ensures told { λ r.
+        let s = slicesBefore starts equations weights inverses in
+        let f = now (field .entry) in
+        ⌜ Told (λ (a : Answer). GradientCall counts stencil records s number f (now (out .entry)) a (now (out .exit))) r (now (index .exit)) ⌝ }
 {
     let a = numerics::least_squares_gradient(
         counts,
@@ -147,7 +153,12 @@ pub extern "C" fn juvandeer_integrated_divergence(
     out: &mut [f64],
     index: &mut usize,
 ) -> u64
-    ensures { λ r. ⌜ Told (λ (a : Answer). (a ≡ outflowChecks counts (now (adjacency .entry)) number (now (flux .entry)) (length (now (out .entry)))) × (now (out .exit) ≡ ifRefused a (now (out .entry)) (outflows (counts .cells) (now (adjacency .entry)) (now (flux .entry))))) r (now (index .exit)) ⌝ }
+    ensures told { λ r.
+        let f = now (adjacency .entry) in
+        let v = now (flux .entry) in
+        let call : Answer → Type 0 = λ a. OutflowCall counts f number v (now (out .entry)) a (now (out .exit)) in
+        let terms : Answer → Type 0 = λ a. Scattered a (counts .cells) f v (now (out .exit)) in
+        ⌜ Told (λ (a : Answer). call a × terms a) r (now (index .exit)) ⌝ }
 {
     let a = numerics::integrated_divergence(counts, adjacency, number, flux, out);
     *index = index_of(a);
@@ -162,7 +173,8 @@ pub extern "C" fn juvandeer_momentum_inverse_diagonal(
     out: &mut [f64],
     index: &mut usize,
 ) -> u64
-    ensures { λ r. ⌜ Told (λ (a : Answer). (a ≡ orElse (diagonalChecks counts (now (diagonal .entry)) (length (now (out .entry)))) (inverseAnswer (now (diagonal .entry)))) × (now (out .exit) ≡ ifRefused (diagonalChecks counts (now (diagonal .entry)) (length (now (out .entry)))) (now (out .entry)) (handedOut a (counts .cells) (inverses (now (diagonal .entry)))))) r (now (index .exit)) ⌝ }
+    ensures told { λ r.
+        ⌜ Told (λ (a : Answer). DiagonalCall counts (now (diagonal .entry)) (now (out .entry)) a (now (out .exit))) r (now (index .exit)) ⌝ }
 {
     let a = simple::momentum_inverse_diagonal(counts, diagonal, out);
     *index = index_of(a);
@@ -181,7 +193,10 @@ pub extern "C" fn juvandeer_pressure_face_coefficients(
     out: &mut [f64],
     index: &mut usize,
 ) -> u64
-    ensures { λ r. ⌜ Told (λ (a : Answer). (a ≡ orElse (coefficientChecks counts (grid (now (adjacency .entry)) (now (geometry .entry)) (now (places .entry))) (field response (now (responses .entry))) (length (now (out .entry)))) (coefficientAnswer (grid (now (adjacency .entry)) (now (geometry .entry)) (now (places .entry))) (now (responses .entry)) (counts .faces))) × (now (out .exit) ≡ ifRefused (coefficientChecks counts (grid (now (adjacency .entry)) (now (geometry .entry)) (now (places .entry))) (field response (now (responses .entry))) (length (now (out .entry)))) (now (out .entry)) (handedOut a (counts .faces) (coefficients (grid (now (adjacency .entry)) (now (geometry .entry)) (now (places .entry))) (now (responses .entry)) (counts .faces))))) r (now (index .exit)) ⌝ }
+    ensures told { λ r.
+        let m = gridLent adjacency geometry places in
+        let w = fieldLent response responses in
+        ⌜ Told (λ (a : Answer). CoefficientCall counts m w (now (out .entry)) a (now (out .exit))) r (now (index .exit)) ⌝ }
 {
     let a = simple::pressure_face_coefficients(
         counts,
@@ -211,7 +226,11 @@ pub extern "C" fn juvandeer_pressure_face_coefficients_with_boundary(
     out: &mut [f64],
     index: &mut usize,
 ) -> u64
-    ensures { λ r. ⌜ Told (λ (a : Answer). BoundaryCall counts (grid (now (adjacency .entry)) (now (geometry .entry)) (now (places .entry))) (conditions number (now (codes .entry)) (now (values .entry))) (field response (now (responses .entry))) (now (out .entry)) a (now (out .exit))) r (now (index .exit)) ⌝ }
+    ensures told { λ r.
+        let m = gridLent adjacency geometry places in
+        let k = conditionsLent number codes values in
+        let w = fieldLent response responses in
+        ⌜ Told (λ (a : Answer). BoundaryCall counts m k w (now (out .entry)) a (now (out .exit))) r (now (index .exit)) ⌝ }
 {
     let a = simple::pressure_face_coefficients_with_boundary(
         counts,
@@ -254,7 +273,13 @@ pub extern "C" fn juvandeer_rhie_chow_predicted_flux(
     out: &mut [f64],
     index: &mut usize,
 ) -> u64
-    ensures { λ r. ⌜ Told (λ (a : Answer). PredictionCall counts (grid (now (adjacency .entry)) (now (geometry .entry)) (now (places .entry))) stencil records (slices (now (starts .entry)) (now (equations .entry)) (now (weights .entry)) (now (inverses .entry))) (lent (field velocity (now (velocities .entry))) (field pressure (now (pressures .entry))) (field response (now (responses .entry))) (field wall (now (walls .entry)))) (now (gradient .entry)) (now (out .entry)) a (now (gradient .exit)) (now (out .exit))) r (now (index .exit)) ⌝ }
+    ensures told { λ r.
+        let m = gridLent adjacency geometry places in
+        let s = slicesBefore starts equations weights inverses in
+        let l = flowFieldsLent velocity velocities pressure pressures response responses wall walls in
+        let before = now (gradient .entry) in
+        let after = now (gradient .exit) in
+        ⌜ Told (λ (a : Answer). PredictionCall counts m stencil records s l before (now (out .entry)) a after (now (out .exit))) r (now (index .exit)) ⌝ }
 {
     let a = simple::rhie_chow_predicted_flux(
         counts,
@@ -299,7 +324,13 @@ pub extern "C" fn juvandeer_correct_face_flux_with_boundary(
     out: &mut [f64],
     index: &mut usize,
 ) -> u64
-    ensures { λ r. ⌜ Told (λ (a : Answer). CorrectionCall counts (now (adjacency .entry)) (conditions number (now (codes .entry)) (now (values .entry))) (fields (field prediction (now (predicted .entry))) (field coefficient (now (coefficients .entry))) (field correction (now (corrections .entry)))) (now (out .entry)) a (now (out .exit)) × Promised a (now (adjacency .entry)) (conditions number (now (codes .entry)) (now (values .entry))) (fields (field prediction (now (predicted .entry))) (field coefficient (now (coefficients .entry))) (field correction (now (corrections .entry)))) (now (out .exit))) r (now (index .exit)) ⌝ }
+    ensures told { λ r.
+        let f = now (adjacency .entry) in
+        let k = conditionsLent number codes values in
+        let l = fieldsLent prediction predicted coefficient coefficients correction corrections in
+        let call : Answer → Type 0 = λ a. CorrectionCall counts f k l (now (out .entry)) a (now (out .exit)) in
+        let promise : Answer → Type 0 = λ a. Promised a f k l (now (out .exit)) in
+        ⌜ Told (λ (a : Answer). call a × promise a) r (now (index .exit)) ⌝ }
 {
     let a = simple::correct_face_flux_with_boundary(
         counts,
@@ -336,9 +367,8 @@ pub extern "C" fn juvandeer_correct_face_flux_in_place(
     index: &mut usize,
 ) -> u64
     ensures told { λ r.
-        let k = conditions number (now (codes .entry)) (now (values .entry)) in
-        let predicted = field prediction (now (flux .entry)) in
-        let l = fields predicted (field coefficient (now (coefficients .entry))) (field correction (now (corrections .entry))) in
+        let k = conditionsLent number codes values in
+        let l = fieldsLent prediction flux coefficient coefficients correction corrections in
         let call : Answer → Type 0 = λ a. CorrectionCall counts (now (adjacency .entry)) k l (now (flux .entry)) a (now (flux .exit)) in
         let promise : Answer → Type 0 = λ a. Promised a (now (adjacency .entry)) k l (now (flux .exit)) in
         ⌜ Told (λ (a : Answer). call a × promise a) r (now (index .exit)) ⌝ }
@@ -373,7 +403,11 @@ pub extern "C" fn juvandeer_correct_cell_velocity_from_gradient(
     out: &mut [f64],
     index: &mut usize,
 ) -> u64
-    ensures { λ r. ⌜ Told (λ (a : Answer). (a ≡ orElse (velocityChecks counts (field velocity (now (velocities .entry))) (field response (now (responses .entry))) (field gradient (now (gradients .entry))) (length (now (out .entry)))) (velocityAnswer (now (velocities .entry)) (now (responses .entry)) (now (gradients .entry)))) × (now (out .exit) ≡ ifRefused (velocityChecks counts (field velocity (now (velocities .entry))) (field response (now (responses .entry))) (field gradient (now (gradients .entry))) (length (now (out .entry)))) (now (out .entry)) (handedOut a (length (now (out .entry))) (correctedVelocities (now (velocities .entry)) (now (responses .entry)) (now (gradients .entry)))))) r (now (index .exit)) ⌝ }
+    ensures told { λ r.
+        let v = fieldLent velocity velocities in
+        let w = fieldLent response responses in
+        let g = fieldLent gradient gradients in
+        ⌜ Told (λ (a : Answer). VelocityCall counts v w g (now (out .entry)) a (now (out .exit))) r (now (index .exit)) ⌝ }
 {
     let a = simple::correct_cell_velocity_from_gradient(
         counts,
@@ -401,7 +435,13 @@ pub extern "C" fn juvandeer_continuity_metrics(
     metrics: &mut [f64],
     index: &mut usize,
 ) -> u64
-    ensures { λ r. ⌜ Told (λ (a : Answer). MetricsCall counts (now (adjacency .entry)) (now (places .entry)) (field number (now (flux .entry))) (now (outflow .entry)) (now (metrics .entry)) a (now (outflow .exit)) (now (metrics .exit))) r (now (index .exit)) ⌝ }
+    ensures told { λ r.
+        let f = now (adjacency .entry) in
+        let p = now (places .entry) in
+        let v = fieldLent number flux in
+        let sums = now (outflow .entry) in
+        let call : Answer → Type 0 = λ a. MetricsCall counts f p v sums (now (metrics .entry)) a (now (outflow .exit)) (now (metrics .exit)) in
+        ⌜ Told (λ (a : Answer). call a) r (now (index .exit)) ⌝ }
 {
     let a = simple::continuity_metrics(counts, adjacency, places, number, flux, outflow, metrics);
     *index = index_of(a);
@@ -444,7 +484,14 @@ pub extern "C" fn juvandeer_step(
     metrics: &mut [f64],
     index: &mut usize,
 ) -> u64
-    ensures { λ r. ⌜ Told (λ (a : Answer). StepCall (given (mesh counts (now (adjacency .entry)) (now (geometry .entry)) (now (heads .entry)) (now (places .entry)) (now (facing .entry)) (now (bordering .entry))) (conditions number (now (codes .entry)) (now (values .entry))) records (field velocity (now (velocities .entry))) (field pressure (now (pressures .entry))) (field response (now (responses .entry))) (field wall (now (walls .entry))) (field correction (now (corrections .entry)))) (handed (now (starts .entry)) (now (equations .entry)) (now (weights .entry)) (now (inverses .entry)) (now (gradient .entry)) (now (predicted .entry)) (now (coefficients .entry)) (now (flux .entry)) (now (outflow .entry)) (now (metrics .entry))) a (handed (now (starts .exit)) (now (equations .exit)) (now (weights .exit)) (now (inverses .exit)) (now (gradient .exit)) (now (predicted .exit)) (now (coefficients .exit)) (now (flux .exit)) (now (outflow .exit)) (now (metrics .exit))) × Demanded a (given (mesh counts (now (adjacency .entry)) (now (geometry .entry)) (now (heads .entry)) (now (places .entry)) (now (facing .entry)) (now (bordering .entry))) (conditions number (now (codes .entry)) (now (values .entry))) records (field velocity (now (velocities .entry))) (field pressure (now (pressures .entry))) (field response (now (responses .entry))) (field wall (now (walls .entry))) (field correction (now (corrections .entry)))) (now (flux .exit)) (now (outflow .exit))) r (now (index .exit)) ⌝ }
+    ensures told { λ r.
+        let m = meshLent counts adjacency geometry heads places facing bordering in
+        let k = conditionsLent number codes values in
+        let d = inputsLent m k records velocity velocities pressure pressures response responses wall walls correction corrections in
+        let old = outputsBefore starts equations weights inverses gradient predicted coefficients flux outflow metrics in
+        let new = outputsAfter starts equations weights inverses gradient predicted coefficients flux outflow metrics in
+        let demanded : Answer → Type 0 = λ a. Demanded a d (now (flux .exit)) (now (outflow .exit)) in
+        ⌜ Told (λ (a : Answer). StepCall d old a new × demanded a) r (now (index .exit)) ⌝ }
 {
     let a = step::step(
         counts,

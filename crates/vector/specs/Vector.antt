@@ -36,9 +36,6 @@ sum a b = vec (a .x ⊕ b .x) (a .y ⊕ b .y) (a .z ⊕ b .z)
 unfoldable pub difference : Vec3 → Vec3 → Vec3
 difference a b = vec (a .x ⊖ b .x) (a .y ⊖ b .y) (a .z ⊖ b .z)
 
-unfoldable pub negation : Vec3 → Vec3
-negation a = vec (neg (a .x)) (neg (a .y)) (neg (a .z))
-
 unfoldable pub scaled : Vec3 → Float → Vec3
 scaled a s = vec (a .x ⊗ s) (a .y ⊗ s) (a .z ⊗ s)
 

@@ -1,6 +1,6 @@
 // Vectors of three floats, in the Rust's order of float operations, and slices of them.
 ghost use mathlib.Core.Path.{_≡_};
-ghost use Rattle.vector.specs.Vector.{dot, greater, longest, norm, normSquared, sum, difference, negation, scaled, quotient};
+ghost use Rattle.vector.specs.Vector.{dot, greater, longest, norm, normSquared, sum, difference, scaled, quotient};
 
 pub mod inner;
 
@@ -65,16 +65,6 @@ impl Vec3 {
             x: self.x - other.x,
             y: self.y - other.y,
             z: self.z - other.z,
-        }
-    }
-
-    pub fn neg(self) -> Vec3
-        ensures { λ r. ⌜ r ≡ negation self ⌝ }
-    {
-        Vec3 {
-            x: -self.x,
-            y: -self.y,
-            z: -self.z,
         }
     }
 

@@ -1,6 +1,6 @@
 -- `capi::index_of` meets its contract.
 use mathlib.Core.Path.{sym, ap}
-use Rattle.capi.specs.Told.{indexOf}
+use Rattle.mesh.specs.Answers.{indexOf}
 use borrow.Author.Needs.{needs}
 use Rattle.capi.proofs.index_of.Statement.{statement}
 use Rattle.capi.proofs.index_of.Tie as tie

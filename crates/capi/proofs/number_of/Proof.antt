@@ -1,6 +1,6 @@
 -- `capi::number_of` meets its contract.
 use mathlib.Core.Path.{sym, ap}
-use Rattle.capi.specs.Told.{numberOf}
+use Rattle.mesh.specs.Answers.{numberOf}
 use borrow.Author.Needs.{needs}
 use Rattle.capi.proofs.number_of.Statement.{statement}
 use Rattle.capi.proofs.number_of.Tie as tie

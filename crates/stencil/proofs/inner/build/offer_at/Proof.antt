@@ -1,11 +1,12 @@
 -- `stencil::inner::build::offer_at` meets its contract: the cell across the face is there, by the link or as the neighbour, and the owner is.
-use Prim.Native.Nat.{_-_, _<_}
-use mathlib.Core.Path.{sym, _∙_}
+use Prim.Native.Nat.{_+_, _-_, _<_}
+use mathlib.Core.Path.{_≡_, sym, _∙_}
 use native.Mathlib.Omega.{arith}
 use borrow.Author.Tests.{eq-eqb, ne-eqb}
 use borrow.Author.Needs.{needs}
+use Rattle.numerics.specs.Slices.{fromCell}
 use Rattle.stencil.specs.Cell.{offer}
-use Rattle.stencil.proofs.inner.build.Laws.{two-in, four-in, below-pred}
+use Rattle.stencil.proofs.inner.build.Laws.{two-in, four-in, below-pred, after-pred}
 use Rattle.stencil.proofs.inner.build.offer_at.Statement.{statement}
 use Rattle.stencil.proofs.inner.build.offer_at.Tie as tie
 
@@ -211,9 +212,11 @@ returns-3 c =
     let h : tie.After-vector-at = search in
     let o : tie.After-first-of3 = search in
     let v : tie.After-vector-at5 = search in
+    let k : n .second-of .result + 1 ≡ fromCell (n .second-of .result - 1) = after-pred (t1 .if1 .left) in
     rw (
       ne-eqb _ 0 (λ z. t1 .if1 .left (n .second-of .ensures ∙ z)),
       eq-eqb _ _ (sym (o .first-of3 .ensures) ∙ t3 .if3 .taken),
+      k,
       c .sub4 .ensures,
       v .vector-at5 .ensures,
       h .vector-at .ensures,

@@ -1,25 +1,25 @@
 -- What the checks of a stencil's entry establish. Assumes nothing.
 use mathlib.Core.Path.{_≡_, sym, _∙_}
+use mathlib.Core.List.{[], _∷_}
 use mathlib.Core.Bool.{_&&_}
-use Prim.Native.Nat.{ℕ, _*_, _≤_, _<_}
-use native.Mathlib.Omega.{arith}
+use Prim.Native.Nat.{ℕ, _*_, _≤_}
 use lib.Dec.{eqb, leb}
 use lib.ListN.{length}
 use borrow.Author.Tests.{eqb-true, leb-true}
-use Rattle.mesh.specs.Answers.{pass, firstOf}
-use Rattle.mesh.specs.Checks.{sizesOk}
+use Rattle.mesh.specs.Answers.{pass}
+use Rattle.mesh.specs.Checks.{largestCount, sizesOk}
 use Rattle.mesh.specs.Mesh.{Mesh, Conditions, meshSized, conditionsSized, topology, Sized, Sound}
 use Rattle.mesh.specs.declared.Answer.{Answer}
 use Rattle.mesh.specs.declared.Answer.the-variants.{Accepted}
 use Rattle.chain.proofs.Truth.{and-true, every-at}
-use Rattle.mesh.proofs.Facts.{both-accepted, passed, peer-below}
+use Rattle.mesh.proofs.Facts.{all-accepted, passed, peer-below}
 use Rattle.mesh.proofs.Good.{sized, sound}
-use Rattle.stencil.specs.Lent.{Good}
+use Rattle.stencil.specs.Lent.{lentOf, Buildable}
 use Rattle.numerics.specs.Slices.{Lengths, stencilSizes, stencilSized}
-use Rattle.stencil.specs.Checks.{stencilChecks, lentOf}
+use Rattle.stencil.specs.Checks.{stencilChecks}
 
-pub lent-good : (m : Mesh) (k : Conditions) → Sized m → Sound m (k .codes) → length (k .codes) ≡ 2 * (m .counts .faces) → length (k .values) ≡ 4 * (m .counts .faces) → Good (lentOf m k)
-lent-good m k z s c v = record {
+pub lent-buildable : (m : Mesh) (k : Conditions) → Sized m → Sound m (k .codes) → length (k .codes) ≡ 2 * (m .counts .faces) → length (k .values) ≡ 4 * (m .counts .faces) → Buildable (lentOf m k)
+lent-buildable m k z s c v = record {
   adjacency-size = z .adjacency;
   geometry-size = z .geometry;
   places-size = z .places;
@@ -34,33 +34,37 @@ lent-good m k z s c v = record {
 }
 
 pub record Passed (m : Mesh) (k : Conditions) (records : ℕ) (n : Lengths) : Type 0 where
-  pub good : Good (lentOf m k)
+  pub buildable : Buildable (lentOf m k)
   pub starts : n .starts ≡ m .counts .cells
   pub equations : n .equations ≡ 2 * records
   pub weights : n .weights ≡ 4 * records
   pub inverses : n .inverses ≡ 9 * (m .counts .cells)
-  pub small : records < 65536
+  pub small : records ≤ largestCount
 
 pub passed-checks : (m : Mesh) (k : Conditions) (records : ℕ) (n : Lengths) (r : Answer) → r ≡ stencilChecks m k records n → r ≡ Accepted → Passed m k records n
-unfolding stencilChecks firstOf
+unfolding stencilChecks
 passed-checks m k records n r c e =
     let shape = meshSized m && conditionsSized (m .counts .faces) (k .codes) (k .values) in
-    let one = both-accepted (pass 1 (sizesOk (m .counts) && leb records 65535)) _ (sym c ∙ e) in
-    let two = both-accepted (pass 2 (shape && stencilSized (m .counts .cells) records n)) _ (one .1) in
-    let three = both-accepted (pass 3 (eqb (k .number) (m .counts .mesh))) _ (two .1) in
-    let rest = both-accepted (topology m (k .codes)) Accepted (three .1) in
-    let counts = and-true (sizesOk (m .counts)) (leb records 65535) (passed 1 _ (one .0)) in
-    let all = and-true shape (stencilSized (m .counts .cells) records n) (passed 2 _ (two .0)) in
+    let outs = stencilSized (m .counts .cells) records n in
+    let w =
+    all-accepted
+    (pass 1 (sizesOk (m .counts) && leb records largestCount)
+    ∷ pass 2 (shape && outs)
+    ∷ pass 3 (eqb (k .number) (m .counts .mesh))
+    ∷ topology m (k .codes)
+    ∷ [])
+    (sym c ∙ e) in
+    let counts = and-true (sizesOk (m .counts)) (leb records largestCount) (passed 1 _ (w 0)) in
+    let all = and-true shape outs (passed 2 _ (w 1)) in
     let lengths = and-true (meshSized m) (conditionsSized (m .counts .faces) (k .codes) (k .values)) (all .0) in
     let own = and-true (eqb (length (k .codes)) (2 * (m .counts .faces))) (eqb (length (k .values)) (4 * (m .counts .faces))) (lengths .1) in
-    let outs = every-at (eqb (n .starts) (m .counts .cells)) (stencilSizes (m .counts .cells) records n) (all .1) in
+    let fits = every-at (stencilSizes (m .counts .cells) records n) (all .1) in
     let z = sized m (lengths .0) in
-    let few = leb-true records 65535 (counts .1) in
     record {
-      good = lent-good m k z (sound m (k .codes) z (eqb-true _ _ (own .0)) (rest .0)) (eqb-true _ _ (own .0)) (eqb-true _ _ (own .1));
-      starts = eqb-true _ _ (outs .0);
-      equations = eqb-true _ _ (outs .1 0);
-      weights = eqb-true _ _ (outs .1 1);
-      inverses = eqb-true _ _ (outs .1 2);
-      small = omega arith;
+      buildable = lent-buildable m k z (sound m (k .codes) z (eqb-true _ _ (own .0)) (w 3)) (eqb-true _ _ (own .0)) (eqb-true _ _ (own .1));
+      starts = eqb-true _ _ (fits 0);
+      equations = eqb-true _ _ (fits 1);
+      weights = eqb-true _ _ (fits 2);
+      inverses = eqb-true _ _ (fits 3);
+      small = leb-true records largestCount (counts .1);
     }

@@ -8,30 +8,15 @@ use lib.ListN.{length}
 use borrow.Author.Tests.{eqb-true, leb-true}
 use Rattle.mesh.specs.Answers.{pass}
 use Rattle.mesh.specs.Checks.{largestCount, sizesOk}
-use Rattle.mesh.specs.Mesh.{Mesh, Conditions, meshSized, conditionsSized, topology, Sized, Sound}
+use Rattle.mesh.specs.Mesh.{Mesh, Conditions, meshSized, conditionsSized, topology}
 use Rattle.mesh.specs.declared.Answer.{Answer}
 use Rattle.mesh.specs.declared.Answer.the-variants.{Accepted}
 use Rattle.chain.proofs.Truth.{and-true, every-at}
-use Rattle.mesh.proofs.Facts.{all-accepted, passed, peer-below}
+use Rattle.mesh.proofs.Facts.{all-accepted, passed}
 use Rattle.mesh.proofs.Good.{sized, sound}
 use Rattle.stencil.specs.Lent.{lentOf, Buildable}
 use Rattle.numerics.specs.Slices.{Lengths, stencilSizes, stencilSized}
 use Rattle.stencil.specs.Checks.{stencilChecks}
-
-pub lent-buildable : (m : Mesh) (k : Conditions) → Sized m → Sound m (k .codes) → length (k .codes) ≡ 2 * (m .counts .faces) → length (k .values) ≡ 4 * (m .counts .faces) → Buildable (lentOf m k)
-lent-buildable m k z s c v = record {
-  adjacency-size = z .adjacency;
-  geometry-size = z .geometry;
-  places-size = z .places;
-  facing-size = z .facing;
-  codes-size = c;
-  values-size = v;
-  web = record { heads-size = z .heads; bordering-size = z .bordering; ended = s .borderings };
-  owner-cell = λ f l. s .faces f l .owner;
-  neighbour-cell = λ f l. s .faces f l .neighbour;
-  peer-face = λ f l. peer-below (m .adjacency) (k .codes) (m .counts .faces) f c (s .links f l);
-  faces-end = s .facings;
-}
 
 pub record Passed (m : Mesh) (k : Conditions) (records : ℕ) (n : Lengths) : Type 0 where
   pub buildable : Buildable (lentOf m k)
@@ -61,7 +46,12 @@ passed-checks m k records n r c e =
     let fits = every-at (stencilSizes (m .counts .cells) records n) (all .1) in
     let z = sized m (lengths .0) in
     record {
-      buildable = lent-buildable m k z (sound m (k .codes) z (eqb-true _ _ (own .0)) (w 3)) (eqb-true _ _ (own .0)) (eqb-true _ _ (own .1));
+      buildable = record {
+        sized = z;
+        codes = eqb-true _ _ (own .0);
+        values = eqb-true _ _ (own .1);
+        sound = sound m (k .codes) z (eqb-true _ _ (own .0)) (w 3);
+      };
       starts = eqb-true _ _ (fits 0);
       equations = eqb-true _ _ (fits 1);
       weights = eqb-true _ _ (fits 2);

@@ -11,7 +11,10 @@ use lib.Ieee.{Float}
 use Rattle.matrix.specs.declared.Normal.{Normal}
 use Rattle.chain.specs.Chains.{itemOf, nextOf, walk, Chain}
 use Rattle.numerics.specs.Slices.{fromCell}
-use Rattle.stencil.specs.Ring.{Ways, inRing, upFrom, ring}
+use Rattle.mesh.specs.Records.{peerAt}
+use Rattle.mesh.proofs.Facts.{peer-below}
+use Rattle.stencil.specs.Lent.{Lent, Buildable, webOf}
+use Rattle.stencil.specs.Ring.{Ways, Web, inRing, upFrom, ring}
 use Rattle.chain.proofs.Chains.{Onward, onward, walk-over}
 use Rattle.stencil.proofs.inner.ring.Laws.{cases, found, ring-over, ring-next}
 use Rattle.stencil.specs.declared.inner.build.Progress.{Progress}
@@ -46,6 +49,13 @@ after-pred {a} z = omega arith
 pub same-going : {u : ℕ} {e f : List ℕ} {w v : List Float} {n : Normal} → e ≡ f → w ≡ v
     → going (building u e w n) ≡ going (building u f v n)
 same-going p q = rw (p, q)
+
+-- what the neighbours' search asks for, and where a link goes
+pub web-of : (l : Lent) → Buildable l → Web (webOf (l .mesh))
+web-of l g = record { heads-size = g .sized .heads; bordering-size = g .sized .bordering; ended = g .sound .borderings }
+
+pub peer-face : (l : Lent) → Buildable l → (f : ℕ) → f < l .mesh .counts .faces → peerAt (l .bounds .codes) f ≤ l .mesh .counts .faces
+peer-face l g f h = peer-below (l .mesh .adjacency) (l .bounds .codes) (l .mesh .counts .faces) f (g .codes) (g .sound .links f h)
 
 -- a building in the slices that a function holds
 abbrev pub held : Progress → List ℕ → List Float → Building

@@ -93,9 +93,9 @@ module _ (m : Lent) (records : ℕ) where
     stop k i h =
         le-ind (λ n. below m records n ≡ refused k i) (rw (p .done, ← is-cell, h)) (λ n a q. rw q) (m .mesh .counts .cells) l
 
-  pub finish : (c used : ℕ) (starts equations : List ℕ) (weights inverses : List Float) → Pass c used starts equations weights inverses
+  pub all-done : (c used : ℕ) (starts equations : List ℕ) (weights inverses : List Float) → Pass c used starts equations weights inverses
       → m .mesh .counts .cells ≤ c → below m records (m .mesh .counts .cells) ≡ built (stencil used starts equations weights inverses)
-  finish c used starts equations weights inverses p h =
+  all-done c used starts equations weights inverses p h =
       let e : c ≡ m .mesh .counts .cells = le-antisymm (p .within) h in
       ap (below m records) (sym e) ∙ p .done
 

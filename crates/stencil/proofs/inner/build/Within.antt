@@ -26,7 +26,7 @@ use Rattle.mesh.specs.Records.{ownerAt, neighbourAt, peerAt, conditionAt, centr
 use Rattle.stencil.specs.Lent.{Lent, Buildable, cellFaces, webOf}
 use Rattle.stencil.specs.Building.{Building, Solved, Course, stopped, going, andThen, overAll, recordNumbers, push}
 use Rattle.stencil.specs.Cell.{wall, offer, weighted, offered, addFace, gather, addRing, extend, addNormal, closing, addClosing, close, settle, inverseOf, finished, finish, widened, widen, gathered, cellStencil}
-use Rattle.stencil.proofs.inner.build.Laws.{below-pred}
+use Rattle.stencil.proofs.inner.build.Laws.{below-pred, peer-face}
 use lib.Ieee as Ieee
 
 -- every item of a list is below the limit
@@ -74,7 +74,7 @@ offer-sourced m g c f h =
     rw (t1, u1) (wall-sourced (fromCell (m .mesh .counts .cells)) (conditionAt (m .bounds .codes) (m .bounds .values) f) _ (omega arith)))
     (λ u.
     let u1 : eqb (peerAt (m .bounds .codes) f) 0 ≡ false = u in
-    let o = g .owner-cell (peerAt (m .bounds .codes) f - 1) (below-pred (g .peer-face f h) (eqb-false _ _ u1)) in
+    let o = g .sound .faces (peerAt (m .bounds .codes) f - 1) (below-pred (peer-face m g f h) (eqb-false _ _ u1)) .owner in
     rw (t1, u1) (omega (arith, o)))
     (cases (eqb (peerAt (m .bounds .codes) f) 0)))
     (λ t.
@@ -82,15 +82,15 @@ offer-sourced m g c f h =
     ⊎-elim
     (λ u.
     let u1 : eqb (ownerAt (m .mesh .adjacency) f) c ≡ true = u in
-    rw (t1, u1) (omega (arith, below-pred (g .neighbour-cell f h) (eqb-false _ _ t1))))
+    rw (t1, u1) (omega (arith, below-pred (g .sound .faces f h .neighbour) (eqb-false _ _ t1))))
     (λ u.
     let u1 : eqb (ownerAt (m .mesh .adjacency) f) c ≡ false = u in
-    rw (t1, u1) (omega (arith, g .owner-cell f h)))
+    rw (t1, u1) (omega (arith, g .sound .faces f h .owner)))
     (cases (eqb (ownerAt (m .mesh .adjacency) f) c)))
     (cases (eqb (neighbourAt (m .mesh .adjacency) f) 0))
 
 module _ (P : ℕ → List ℕ → Type 0) where
-  -- the outcome has the property, where it goes on
+  -- a course has the property, where it goes on; and that of a finished cell
   abbrev pub Within : Course Building → Type 0
   Within (stopped k i) = 0 ≤ k
   Within (going b) = P (b .used) (b .equations)
@@ -171,7 +171,7 @@ module _ (P : ℕ → List ℕ → Type 0) where
       close-within f a b l = closing-within (faceNormal (m .mesh .geometry) f) (offer m c f) b l
 
       faces-bounded : Bounded (m .mesh .counts .faces) (cellFaces (m .mesh) c)
-      faces-bounded = walk-bounded (m .mesh .facing) (m .mesh .counts .facings) (m .mesh .counts .faces) (m .mesh .counts .facings) _ (g .faces-end c h)
+      faces-bounded = walk-bounded (m .mesh .facing) (m .mesh .counts .facings) (m .mesh .counts .faces) (m .mesh .counts .facings) _ (g .sound .facings c h)
 
       finish-within : KeepsTo (finish m n c)
       unfolding finish finished close

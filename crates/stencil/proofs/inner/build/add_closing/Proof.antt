@@ -21,7 +21,9 @@ vector-at-requires : tie.Need-vector-at-requires
 vector-at-requires c κs = search needs
 
 add-normal-requires : tie.Need-add-normal-requires
-add-normal-requires c κs = search needs
+add-normal-requires c κs =
+    let s : tie.Start = search in
+    (s .pre .1 .1 .1 .0, s .pre .1 .1 .1 .1)
 
 enum-told-2 : tie.Need-enum-told-2
 enum-told-2 c = search needs

@@ -57,21 +57,21 @@ onwardAt c =
 first-of-requires : tie.Need-first-of-requires Inv-loop μ-loop
 first-of-requires c κs =
     let s : tie.Start Inv-loop μ-loop = search in
-    two-in (s .pre .0 .web .heads-size) (s .pre .1 .0)
+    two-in (s .pre .0 .sized .heads) (s .pre .1 .0)
 
 loop-holds : tie.Need-loop-holds Inv-loop μ-loop
 unfolding close
 loop-holds c =
     let s : tie.Start Inv-loop μ-loop = search in (
       record { numbers = s .pre .1 .1 .0; floats = s .pre .1 .1 .1 },
-      rw (c .first-of .ensures) record { chain = s .pre .0 .faces-end (s .args .c) (s .pre .1 .0); rest = refl },
+      rw (c .first-of .ensures) record { chain = s .pre .0 .sound .facings (s .args .c) (s .pre .1 .0); rest = refl },
     )
 
 sub-first-of : tie.Need-sub-first-of Inv-loop μ-loop
 sub-first-of c = omega (arith, c .loop-test .taken)
 
 first-of-requires-2 : tie.Need-first-of-requires-2 Inv-loop μ-loop
-first-of-requires-2 c κs = room (entry c .pre .0 .facing-size) (c .loop-test .taken) (onwardAt c)
+first-of-requires-2 c κs = room (entry c .pre .0 .sized .facing) (c .loop-test .taken) (onwardAt c)
 
 add-closing-requires : tie.Need-add-closing-requires Inv-loop μ-loop
 add-closing-requires c κs =
@@ -117,7 +117,7 @@ sub-second-of c =
 second-of-requires : tie.Need-second-of-requires Inv-loop μ-loop
 second-of-requires c κs =
     let l : tie.In-loop Inv-loop μ-loop = search in
-    room (entry l .pre .0 .facing-size) (l .loop-test .taken) (onwardAt l)
+    room (entry l .pre .0 .sized .facing) (l .loop-test .taken) (onwardAt l)
 
 loop-less : tie.Need-loop-less Inv-loop μ-loop
 loop-less c =

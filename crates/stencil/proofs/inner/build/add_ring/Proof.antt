@@ -7,7 +7,7 @@ use denote.Ref.{now}
 use Rattle.stencil.specs.Lent.{Lent, lent, webOf}
 use Rattle.stencil.specs.Building.{Building, Course, courseOf}
 use Rattle.stencil.specs.Cell.{addRing, extend}
-use Rattle.stencil.proofs.inner.build.Laws.{RecordSized, held, Ringing, after, ring-start, ring-more, ring-stop, ring-done, rises, steps-on, steps-out}
+use Rattle.stencil.proofs.inner.build.Laws.{web-of, RecordSized, held, Ringing, after, ring-start, ring-more, ring-stop, ring-done, rises, steps-on, steps-out}
 use Rattle.stencil.proofs.inner.build.add_ring.Statement.{statement}
 use Rattle.stencil.proofs.inner.build.add_ring.Tie as tie
 
@@ -44,7 +44,7 @@ heldAt c = held (c .before .before .loop .p) (c .before .before .loop .equations
 next-in-ring-requires : tie.Need-next-in-ring-requires Inv-loop μ-loop
 next-in-ring-requires c κs =
     let s : tie.Start Inv-loop μ-loop = search in
-    (s .pre .0 .web, s .pre .1 .0)
+    (web-of (lentTo s) (s .pre .0), s .pre .1 .0)
 
 loop-holds : tie.Need-loop-holds Inv-loop μ-loop
 unfolding extend
@@ -91,12 +91,12 @@ returns c =
 add-next-in-ring : tie.Need-add-next-in-ring Inv-loop μ-loop
 add-next-in-ring c =
     let t : tie.Then1 Inv-loop μ-loop = search in
-    omega (arith, t .if1 .taken, entry t .pre .0 .web .heads-size, entry t .good .1 .1 .1 .0 .0)
+    omega (arith, t .if1 .taken, entry t .pre .0 .sized .heads, entry t .good .1 .1 .1 .0 .0)
 
 next-in-ring-requires-2 : tie.Need-next-in-ring-requires-2 Inv-loop μ-loop
 next-in-ring-requires-2 c κs =
     let t : tie.Then1 Inv-loop μ-loop = search in
-    (entry t .pre .0 .web, entry t .pre .1 .0)
+    (web-of (lentTo (entry t)) (entry t .pre .0), entry t .pre .1 .0)
 
 loop-less : tie.Need-loop-less Inv-loop μ-loop
 loop-less c =

@@ -42,7 +42,7 @@ div-requires-2 c κs = search needs
 add-t29 : tie.Need-add-t29
 add-t29 c =
     let s = c .before .before .before .before .before .before .before .before .before .before .before .before .before .before .before .before .before .before .before .before in
-    omega (arith, s .pre .1 .1 .0, s .pre .0 .places-size, s .good .1 .1 .1 .1 .0 .0)
+    omega (arith, s .pre .1 .1 .0, s .pre .0 .sized .places, s .good .1 .1 .1 .1 .0 .0)
 
 append-requires : tie.Need-append-requires
 append-requires c κs =

@@ -6,7 +6,7 @@ use borrow.Author.Tests.{eq-eqb, ne-eqb}
 use borrow.Author.Needs.{needs}
 use Rattle.numerics.specs.Slices.{fromCell}
 use Rattle.stencil.specs.Cell.{offer}
-use Rattle.stencil.proofs.inner.build.Laws.{two-in, four-in, below-pred, after-pred}
+use Rattle.stencil.proofs.inner.build.Laws.{two-in, four-in, below-pred, after-pred, peer-face}
 use Rattle.stencil.proofs.inner.build.offer_at.Statement.{statement}
 use Rattle.stencil.proofs.inner.build.offer_at.Tie as tie
 
@@ -16,18 +16,18 @@ linked c =
     let q : tie.After-second-of2 = search in
     let e : tie.Else2 = search in
     rw (c .first-of2 .ensures)
-    (s .pre .0 .owner-cell _
-    (below-pred (rw (q .second-of2 .ensures) (s .pre .0 .peer-face (s .args .f) (s .pre .1 .1))) (e .if2 .left)))
+    (s .pre .0 .sound .faces _
+    (below-pred (rw (q .second-of2 .ensures) (peer-face _ (s .pre .0) (s .args .f) (s .pre .1 .1))) (e .if2 .left)) .owner)
 
 across : (c : tie.Else1) → c .before .second-of .result - 1 < c .before .before .before .before .before .before .before .before .before .before .before .args .counts .cells
 across c =
     let s : tie.Start = search in
-    below-pred (rw (c .before .second-of .ensures) (s .pre .0 .neighbour-cell (s .args .f) (s .pre .1 .1))) (c .if1 .left)
+    below-pred (rw (c .before .second-of .ensures) (s .pre .0 .sound .faces (s .args .f) (s .pre .1 .1) .neighbour)) (c .if1 .left)
 
 owned : (c : tie.After-first-of3) → c .first-of3 .result < c .before .before .before .before .before .before .before .before .before .before .before .before .args .counts .cells
 owned c =
     let s : tie.Start = search in
-    rw (c .first-of3 .ensures) (s .pre .0 .owner-cell (s .args .f) (s .pre .1 .1))
+    rw (c .first-of3 .ensures) (s .pre .0 .sound .faces (s .args .f) (s .pre .1 .1) .owner)
 
 mul-vector-at : tie.Need-mul-vector-at
 mul-vector-at c = search needs
@@ -75,17 +75,17 @@ first-of-requires-2 : tie.Need-first-of-requires-2
 first-of-requires-2 c κs =
     let s : tie.Start = search in
     let q : tie.After-second-of2 = search in
-    two-in (s .pre .0 .adjacency-size) (below-pred (rw (q .second-of2 .ensures) (s .pre .0 .peer-face (s .args .f) (s .pre .1 .1))) (c .if2 .left))
+    two-in (s .pre .0 .sized .adjacency) (below-pred (rw (q .second-of2 .ensures) (peer-face _ (s .pre .0) (s .args .f) (s .pre .1 .1))) (c .if2 .left))
 
 mul-vector-at-3 : tie.Need-mul-vector-at-3
 mul-vector-at-3 c =
     let s : tie.Start = search in
-    omega (arith, linked c, s .pre .0 .places-size, s .good .1 .1 .1 .1 .0 .0)
+    omega (arith, linked c, s .pre .0 .sized .places, s .good .1 .1 .1 .1 .0 .0)
 
 vector-at-requires-3 : tie.Need-vector-at-requires-3
 vector-at-requires-3 c κs =
     let s : tie.Start = search in
-    four-in (s .pre .0 .places-size) (linked c)
+    four-in (s .pre .0 .sized .places) (linked c)
 
 mul-vector-at-4 : tie.Need-mul-vector-at-4
 mul-vector-at-4 c = search needs
@@ -103,7 +103,7 @@ add-t34 : tie.Need-add-t34
 add-t34 c =
     let s : tie.Start = search in
     let o : tie.After-first-of2 = search in
-    omega (arith, linked o, s .pre .0 .places-size, s .good .1 .1 .1 .1 .0 .0)
+    omega (arith, linked o, s .pre .0 .sized .places, s .good .1 .1 .1 .1 .0 .0)
 
 sub-requires-3 : tie.Need-sub-requires-3
 sub-requires-3 c κs = search needs
@@ -118,19 +118,19 @@ mul-vector-at-5 : tie.Need-mul-vector-at-5
 mul-vector-at-5 c =
     let s : tie.Start = search in
     let e : tie.Else1 = search in
-    omega (arith, across e, s .pre .0 .places-size, s .good .1 .1 .1 .1 .0 .0)
+    omega (arith, across e, s .pre .0 .sized .places, s .good .1 .1 .1 .1 .0 .0)
 
 vector-at-requires-5 : tie.Need-vector-at-requires-5
 vector-at-requires-5 c κs =
     let s : tie.Start = search in
     let e : tie.Else1 = search in
-    four-in (s .pre .0 .places-size) (across e)
+    four-in (s .pre .0 .sized .places) (across e)
 
 add-t39 : tie.Need-add-t39
 add-t39 c =
     let s : tie.Start = search in
     let e : tie.Else1 = search in
-    omega (arith, across e, s .pre .0 .places-size, s .good .1 .1 .1 .1 .0 .0)
+    omega (arith, across e, s .pre .0 .sized .places, s .good .1 .1 .1 .1 .0 .0)
 
 sub-requires-4 : tie.Need-sub-requires-4
 sub-requires-4 c κs = search needs
@@ -139,19 +139,19 @@ mul-vector-at-6 : tie.Need-mul-vector-at-6
 mul-vector-at-6 c =
     let s : tie.Start = search in
     let o : tie.After-first-of3 = search in
-    omega (arith, owned o, s .pre .0 .places-size, s .good .1 .1 .1 .1 .0 .0)
+    omega (arith, owned o, s .pre .0 .sized .places, s .good .1 .1 .1 .1 .0 .0)
 
 vector-at-requires-6 : tie.Need-vector-at-requires-6
 vector-at-requires-6 c κs =
     let s : tie.Start = search in
     let o : tie.After-first-of3 = search in
-    four-in (s .pre .0 .places-size) (owned o)
+    four-in (s .pre .0 .sized .places) (owned o)
 
 add-t42 : tie.Need-add-t42
 add-t42 c =
     let s : tie.Start = search in
     let o : tie.After-first-of3 = search in
-    omega (arith, owned o, s .pre .0 .places-size, s .good .1 .1 .1 .1 .0 .0)
+    omega (arith, owned o, s .pre .0 .sized .places, s .good .1 .1 .1 .1 .0 .0)
 
 sub-requires-5 : tie.Need-sub-requires-5
 sub-requires-5 c κs = search needs

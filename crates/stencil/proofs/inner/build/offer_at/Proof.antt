@@ -30,37 +30,55 @@ owned c =
     rw (c .first-of3 .ensures) (s .pre .0 .sound .faces (s .args .f) (s .pre .1 .1) .owner)
 
 mul-vector-at : tie.Need-mul-vector-at
-mul-vector-at c = search needs
+mul-vector-at c =
+    let s : tie.Start = search in
+    omega (arith, s .pre .1 .0, s .pre .0 .sized .places, s .good .1 .1 .1 .1 .0 .0)
 
 vector-at-requires : tie.Need-vector-at-requires
-vector-at-requires c κs = search needs
+vector-at-requires c κs =
+    let s : tie.Start = search in
+    four-in (s .pre .0 .sized .places) (s .pre .1 .0)
 
 second-of-requires : tie.Need-second-of-requires
-second-of-requires c κs = search needs
+second-of-requires c κs =
+    let s : tie.Start = search in
+    two-in (s .pre .0 .sized .adjacency) (s .pre .1 .1)
 
 second-of-requires-2 : tie.Need-second-of-requires-2
-second-of-requires-2 c κs = search needs
+second-of-requires-2 c κs =
+    let s : tie.Start = search in
+    two-in (s .pre .0 .codes) (s .pre .1 .1)
 
 first-of-requires : tie.Need-first-of-requires
-first-of-requires c κs = search needs
+first-of-requires c κs =
+    let s : tie.Start = search in
+    two-in (s .pre .0 .codes) (s .pre .1 .1)
 
 mul-condition-of : tie.Need-mul-condition-of
-mul-condition-of c = search needs
+mul-condition-of c =
+    let s : tie.Start = search in
+    omega (arith, s .pre .1 .1, s .pre .0 .values, s .good .1 .1 .1 .1 .1 .1 .1 .1 .0 .0)
 
 mul-condition-of-2 : tie.Need-mul-condition-of-2
 mul-condition-of-2 c = search needs
 
 shared-slice-read-condition-of : tie.Need-shared-slice-read-condition-of
-shared-slice-read-condition-of c = search needs
+shared-slice-read-condition-of c =
+    let s : tie.Start = search in
+    omega (arith, s .pre .1 .1, s .pre .0 .values)
 
 condition-of-requires : tie.Need-condition-of-requires
 condition-of-requires c κs = search needs
 
 mul-vector-at-2 : tie.Need-mul-vector-at-2
-mul-vector-at-2 c = search needs
+mul-vector-at-2 c =
+    let s : tie.Start = search in
+    omega (arith, s .pre .1 .1, s .pre .0 .sized .geometry, s .good .1 .1 .0 .0)
 
 vector-at-requires-2 : tie.Need-vector-at-requires-2
-vector-at-requires-2 c κs = search needs
+vector-at-requires-2 c κs =
+    let s : tie.Start = search in
+    omega (arith, s .pre .1 .1, s .pre .0 .sized .geometry)
 
 sub-requires : tie.Need-sub-requires
 sub-requires c κs = search needs
@@ -88,13 +106,19 @@ vector-at-requires-3 c κs =
     four-in (s .pre .0 .sized .places) (linked c)
 
 mul-vector-at-4 : tie.Need-mul-vector-at-4
-mul-vector-at-4 c = search needs
+mul-vector-at-4 c =
+    let s : tie.Start = search in
+    omega (arith, s .pre .1 .1, s .pre .0 .values, s .good .1 .1 .1 .1 .1 .1 .1 .1 .0 .0)
 
 add-vector-at : tie.Need-add-vector-at
-add-vector-at c = search needs
+add-vector-at c =
+    let s : tie.Start = search in
+    omega (arith, s .pre .1 .1, s .pre .0 .values, s .good .1 .1 .1 .1 .1 .1 .1 .1 .0 .0)
 
 vector-at-requires-4 : tie.Need-vector-at-requires-4
-vector-at-requires-4 c κs = search needs
+vector-at-requires-4 c κs =
+    let s : tie.Start = search in
+    omega (arith, s .pre .1 .1, s .pre .0 .values)
 
 sub-requires-2 : tie.Need-sub-requires-2
 sub-requires-2 c κs = search needs
@@ -109,7 +133,9 @@ sub-requires-3 : tie.Need-sub-requires-3
 sub-requires-3 c κs = search needs
 
 first-of-requires-3 : tie.Need-first-of-requires-3
-first-of-requires-3 c κs = search needs
+first-of-requires-3 c κs =
+    let s : tie.Start = search in
+    two-in (s .pre .0 .sized .adjacency) (s .pre .1 .1)
 
 sub-vector-at : tie.Need-sub-vector-at
 sub-vector-at c = search needs

@@ -51,8 +51,8 @@ unfoldable pub pivot : Float → Float → Pivot
 pivot value scale =
     cond (isFinite value) (cond (Ieee.le value (sixtyFour ⊗ eps ⊗ scale)) Unfit (Root (root value))) Unfit
 
-unfoldable pub lower : Float → Float → Float → Float → Float → Float → Lower
-lower a b c d e f = record { a = a; b = b; c = c; d = d; e = e; f = f }
+unfoldable pub lowerFactor : Float → Float → Float → Float → Float → Float → Lower
+lowerFactor a b c d e f = record { a = a; b = b; c = c; d = d; e = e; f = f }
 
 -- a column of the inverse, from the rows a; b c; d e f of the lower factor: forward, then back
 unfoldable pub solve : Lower → Vec3 → Vec3
@@ -87,7 +87,7 @@ factored n scale =
     (λ c.
     let d = n .zx ⊘ a in
     let e = (n .zy ⊖ d ⊗ b) ⊘ c in
-    withRoot (pivot (n .zz ⊖ d ⊗ d ⊖ e ⊗ e) scale) (λ f. Inverse (columns (lower a b c d e f)))))
+    withRoot (pivot (n .zz ⊖ d ⊗ d ⊖ e ⊗ e) scale) (λ f. Inverse (columns (lowerFactor a b c d e f)))))
 
 unfoldable pub inverse3 : Normal → Inversion
 inverse3 n =

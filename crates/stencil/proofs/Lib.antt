@@ -1,2 +1,2 @@
 -- What the checks establish. Laws of the work stand with its modules, below `inner`.
-pub mod Good
+pub mod Buildable

@@ -5,30 +5,25 @@ use mathlib.Core.Bool.{_&&_}
 use Prim.Native.Nat.{ℕ}
 use lib.Dec.{eqb, leb}
 use Rattle.mesh.specs.Answers.{pass, orElse, firstOf}
-use Rattle.mesh.specs.Checks.{sizesOk}
+use Rattle.mesh.specs.Checks.{largestCount, sizesOk}
 use Rattle.mesh.specs.Mesh.{Mesh, Conditions, meshSized, conditionsSized, topology}
 use Rattle.mesh.specs.Pass.{ifRefused}
 use Rattle.mesh.specs.declared.Answer.{Answer}
 use Rattle.numerics.specs.Slices.{Lengths, stencilSized, Slices, lengthsOf}
-use Rattle.stencil.specs.Lent.{Lent, lent}
-use Rattle.stencil.specs.Stencil.{stencilAnswer, stencilStarts, stencilEquations, stencilWeights, stencilInverses}
+use Rattle.stencil.specs.Lent.{lentOf}
+use Rattle.stencil.specs.Stencil.{stencilAnswer, stencilSlices}
 
+-- 1 to 6, for room for so many records, in slices of these lengths
 unfoldable pub stencilChecks : Mesh → Conditions → ℕ → Lengths → Answer
 stencilChecks m k records n =
     firstOf
-    (pass 1 (sizesOk (m .counts) && leb records 65535)
+    (pass 1 (sizesOk (m .counts) && leb records largestCount)
     ∷ pass 2 (meshSized m && conditionsSized (m .counts .faces) (k .codes) (k .values) && stencilSized (m .counts .cells) records n)
     ∷ pass 3 (eqb (k .number) (m .counts .mesh))
     ∷ topology m (k .codes)
     ∷ [])
 
-abbrev pub lentOf : Mesh → Conditions → Lent
-lentOf m k = lent (m .counts) (m .adjacency) (m .geometry) (m .heads) (m .places) (m .facing) (m .bordering) (k .codes) (k .values)
-
 -- the answer, and what the slices hold after the call: untouched where a check refuses, else as the stencil is handed out
 pub record StencilCall (m : Mesh) (k : Conditions) (records : ℕ) (old : Slices) (r : Answer) (new : Slices) : Type 0 where
   pub answer : r ≡ orElse (stencilChecks m k records (lengthsOf old)) (stencilAnswer (lentOf m k) records)
-  pub starts : new .starts ≡ ifRefused (stencilChecks m k records (lengthsOf old)) (old .starts) (stencilStarts (lentOf m k) records)
-  pub equations : new .equations ≡ ifRefused (stencilChecks m k records (lengthsOf old)) (old .equations) (stencilEquations (lentOf m k) records)
-  pub weights : new .weights ≡ ifRefused (stencilChecks m k records (lengthsOf old)) (old .weights) (stencilWeights (lentOf m k) records)
-  pub inverses : new .inverses ≡ ifRefused (stencilChecks m k records (lengthsOf old)) (old .inverses) (stencilInverses (lentOf m k) records)
+  pub slices : new ≡ ifRefused (stencilChecks m k records (lengthsOf old)) old (stencilSlices (lentOf m k) records)

@@ -1,8 +1,7 @@
 // The least-squares stencil: the equations of every cell and the inverse of its normal matrix.
 ghost use mathlib.Core.Path.{_≡_};
-ghost use lib.ListN.{length};
-ghost use Rattle.mesh.specs.Mesh.{mesh, conditions};
-ghost use Rattle.numerics.specs.Slices.{lengths, slices};
+ghost use Rattle.mesh.specs.Lent.{meshLent, conditionsLent};
+ghost use Rattle.numerics.specs.Slices.{lengths, slicesBefore, slicesAfter};
 ghost use Rattle.stencil.specs.Checks.{stencilChecks, StencilCall};
 use mesh::Answer;
 use mesh::Counts;
@@ -27,9 +26,12 @@ fn check_stencil(
     weights: usize,
     inverses: usize,
 ) -> Answer
-    ensures { λ r. ⌜ r ≡ stencilChecks (mesh counts (now (adjacency .entry)) (now (geometry .entry)) (now (heads .entry)) (now (places .entry)) (now (facing .entry)) (now (bordering .entry))) (conditions number (now (codes .entry)) (now (values .entry))) records (lengths starts equations weights inverses) ⌝ }
+    ensures checked { λ r.
+        let m = meshLent counts adjacency geometry heads places facing bordering in
+        let k = conditionsLent number codes values in
+        ⌜ r ≡ stencilChecks m k records (lengths starts equations weights inverses) ⌝ }
 {
-    if !(mesh::sizes_ok(counts) & (records <= 65535)) {
+    if !(mesh::sizes_ok(counts) & (records <= mesh::LARGEST_COUNT)) {
         return Answer::Refused(1, 0);
     }
     if !(mesh::mesh_sized(
@@ -80,7 +82,11 @@ pub fn least_squares_stencil(
     weights: &mut [f64],
     inverses: &mut [f64],
 ) -> Answer
-    ensures { λ r. ⌜ StencilCall (mesh counts (now (adjacency .entry)) (now (geometry .entry)) (now (heads .entry)) (now (places .entry)) (now (facing .entry)) (now (bordering .entry))) (conditions number (now (codes .entry)) (now (values .entry))) records (slices (now (starts .entry)) (now (equations .entry)) (now (weights .entry)) (now (inverses .entry))) r (slices (now (starts .exit)) (now (equations .exit)) (now (weights .exit)) (now (inverses .exit))) ⌝ }
+    ensures call { λ r.
+        let m = meshLent counts adjacency geometry heads places facing bordering in
+        let k = conditionsLent number codes values in
+        let before = slicesBefore starts equations weights inverses in
+        ⌜ StencilCall m k records before r (slicesAfter starts equations weights inverses) ⌝ }
 {
     let a = check_stencil(
         counts,

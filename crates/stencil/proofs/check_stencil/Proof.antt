@@ -4,6 +4,7 @@ use mathlib.Core.Bool.{_&&_}
 use lib.Dec.{leb}
 use denote.Ref.{now}
 use borrow.Author.Tests.{eq-eqb, ne-eqb, not-true, not-false}
+use Rattle.mesh.specs.Checks.{largestCount}
 use Rattle.mesh.specs.Answers.{pass, orElse, firstOf}
 use Rattle.mesh.specs.Mesh.{mesh, topology}
 use Rattle.mesh.proofs.Facts.{or-accepted}
@@ -20,7 +21,7 @@ unfolding stencilChecks firstOf orElse pass
 returns c =
     let s : tie.Start = search in
     let z : tie.After-sizes-ok = search in
-    rw (← z .sizes-ok .ensures, not-true (z .sizes-ok .result && leb (s .args .records) 65535) (c .if1 .taken))
+    rw (← z .sizes-ok .ensures, not-true (z .sizes-ok .result && leb (s .args .records) largestCount) (c .if1 .taken))
 
 mesh-sized-requires : tie.Need-mesh-sized-requires
 mesh-sized-requires c κs = search needs
@@ -40,7 +41,7 @@ returns-2 c =
     let k : tie.After-conditions-sized = search in
     let t : tie.After-stencil-sized = search in
     let e : tie.Else1 = search in
-    rw (← z .sizes-ok .ensures, not-false (z .sizes-ok .result && leb (s .args .records) 65535) (e .if1 .left), ← m .mesh-sized .ensures, ← k .conditions-sized .ensures, ← t .stencil-sized .ensures, not-true (m .mesh-sized .result && k .conditions-sized .result && t .stencil-sized .result) (c .if2 .taken))
+    rw (← z .sizes-ok .ensures, not-false (z .sizes-ok .result && leb (s .args .records) largestCount) (e .if1 .left), ← m .mesh-sized .ensures, ← k .conditions-sized .ensures, ← t .stencil-sized .ensures, not-true (m .mesh-sized .result && k .conditions-sized .result && t .stencil-sized .result) (c .if2 .taken))
 
 returns-3 : tie.Need-returns-3
 unfolding stencilChecks firstOf orElse pass
@@ -52,7 +53,7 @@ returns-3 c =
     let t : tie.After-stencil-sized = search in
     let e : tie.Else1 = search in
     let d : tie.Else2 = search in
-    rw (← z .sizes-ok .ensures, not-false (z .sizes-ok .result && leb (s .args .records) 65535) (e .if1 .left), ← m .mesh-sized .ensures, ← k .conditions-sized .ensures, ← t .stencil-sized .ensures, not-false (m .mesh-sized .result && k .conditions-sized .result && t .stencil-sized .result) (d .if2 .left), ne-eqb _ _ (c .if3 .taken))
+    rw (← z .sizes-ok .ensures, not-false (z .sizes-ok .result && leb (s .args .records) largestCount) (e .if1 .left), ← m .mesh-sized .ensures, ← k .conditions-sized .ensures, ← t .stencil-sized .ensures, not-false (m .mesh-sized .result && k .conditions-sized .result && t .stencil-sized .result) (d .if2 .left), ne-eqb _ _ (c .if3 .taken))
 
 check-topology-requires : tie.Need-check-topology-requires
 check-topology-requires c κs = search needs
@@ -70,7 +71,7 @@ returns-4 c =
     let f : tie.Else3 = search in
     let g = c .check-topology .ensures in
     let own = topology (mesh (s .args .counts) (now (s .args .adjacency)) (now (s .args .geometry)) (now (s .args .heads)) (now (s .args .places)) (now (s .args .facing)) (now (s .args .bordering))) (now (s .args .codes)) in
-    rw (← z .sizes-ok .ensures, not-false (z .sizes-ok .result && leb (s .args .records) 65535) (e .if1 .left), ← m .mesh-sized .ensures, ← k .conditions-sized .ensures, ← t .stencil-sized .ensures, not-false (m .mesh-sized .result && k .conditions-sized .result && t .stencil-sized .result) (d .if2 .left), eq-eqb _ _ (f .if3 .left)) (g ∙ sym (or-accepted own))
+    rw (← z .sizes-ok .ensures, not-false (z .sizes-ok .result && leb (s .args .records) largestCount) (e .if1 .left), ← m .mesh-sized .ensures, ← k .conditions-sized .ensures, ← t .stencil-sized .ensures, not-false (m .mesh-sized .result && k .conditions-sized .result && t .stencil-sized .result) (d .if2 .left), eq-eqb _ _ (f .if3 .left)) (g ∙ sym (or-accepted own))
 
 pub check-stencil-spec : {M : Type 1} → statement M
 check-stencil-spec =

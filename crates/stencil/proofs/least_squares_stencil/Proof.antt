@@ -6,7 +6,7 @@ use Rattle.mesh.specs.Answers.{orElse}
 use Rattle.mesh.specs.Mesh.{mesh, conditions}
 use Rattle.mesh.specs.Pass.{ifRefused}
 use Rattle.numerics.specs.Slices.{lengths}
-use Rattle.stencil.proofs.Good.{passed-checks}
+use Rattle.stencil.proofs.Buildable.{passed-checks}
 use borrow.Author.Needs.{needs}
 use Rattle.stencil.proofs.least_squares_stencil.Statement.{statement}
 use Rattle.stencil.proofs.least_squares_stencil.Tie as tie
@@ -23,7 +23,7 @@ least-squares-stencil-requires c κs =
     let k : tie.After-check-stencil = search in
     let e : tie.After-enum-told = search in
     let p = passed-checks (mesh (s .args .counts) (now (s .args .adjacency)) (now (s .args .geometry)) (now (s .args .heads)) (now (s .args .places)) (now (s .args .facing)) (now (s .args .bordering))) (conditions (s .args .number) (now (s .args .codes)) (now (s .args .values))) (s .args .records) (lengths (length (now (s .args .starts))) (length (now (s .args .equations))) (length (now (s .args .weights))) (length (now (s .args .inverses)))) (k .check-stencil .result) (k .check-stencil .ensures) (e .enum-told .given .1) in
-    (p .good, (p .starts, p .equations, p .weights, p .inverses, p .small))
+    (p .buildable, (p .starts, p .equations, p .weights, p .inverses, p .small))
 
 enum-known-a : tie.Need-enum-known-a
 enum-known-a c = search needs
@@ -50,10 +50,7 @@ returns c =
     let a = sym g ∙ e .enum-told .given .1 in
     record {
       answer = rw a (w .least-squares-stencil .ensures .0);
-      starts = rw a (w .least-squares-stencil .ensures .1 .0);
-      equations = rw a (w .least-squares-stencil .ensures .1 .1 .0);
-      weights = rw a (w .least-squares-stencil .ensures .1 .1 .1 .0);
-      inverses = rw a (w .least-squares-stencil .ensures .1 .1 .1 .1);
+      slices = rw a (w .least-squares-stencil .ensures .1);
     }
 
 returns-2 : tie.Need-returns-2
@@ -62,7 +59,7 @@ returns-2 c =
     let k : tie.After-check-stencil = search in
     let g = k .check-stencil .ensures in
     let a = sym g ∙ c .before .a .given .1 in
-    record { answer = rw a; starts = rw a; equations = rw a; weights = rw a; inverses = rw a }
+    record { answer = rw a; slices = rw a }
 
 pub least-squares-stencil-spec : {M : Type 1} → statement M
 least-squares-stencil-spec =

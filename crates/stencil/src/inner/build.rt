@@ -3,10 +3,12 @@
 ghost use mathlib.Core.Path.{_≡_};
 ghost use Prim.Native.Nat.{_+_, _*_, _-_, _<_, _≤_};
 ghost use lib.ListN.{length};
-ghost use Rattle.stencil.specs.Lent.{lent, Good};
-ghost use Rattle.stencil.specs.Building.{building, told, appended, push, recordNumbers, recordWeights};
-ghost use Rattle.stencil.specs.Cell.{wall, offer, weighted, addFace, gather, addRing, extend, addNormal, addClosing, close, settle, finish, widen, cellStencil};
-ghost use Rattle.stencil.specs.Stencil.{endedAt, startOf, putNine, stencilAnswer, stencilStarts, stencilEquations, stencilWeights, stencilInverses};
+ghost use Rattle.mesh.specs.Checks.{largestCount};
+ghost use Rattle.numerics.specs.Slices.{slicesAfter};
+ghost use Rattle.stencil.specs.Lent.{lentNow, lentBefore, Buildable};
+ghost use Rattle.stencil.specs.Building.{recordNumbers, recordWeights, push, buildingBefore, courseAfter, finishAfter};
+ghost use Rattle.stencil.specs.Cell.{wall, offer, weighted, addFace, gather, addRing, extend, addNormal, addClosing, close, finish, widen, cellStencil};
+ghost use Rattle.stencil.specs.Stencil.{startOf, endedAt, putNine, stencilAnswer, stencilSlices};
 use crate::inner::ring;
 use matrix::Inversion;
 use matrix::Normal;
@@ -37,9 +39,22 @@ pub struct Progress {
     pub normal: Normal,
 }
 
+// What a step comes to: a refusal, or the progress that it goes on with.
 pub enum Stage {
     Halted(u64, usize),
     Going(Progress),
+}
+
+// Records used so far, and the inverse of the normal matrix of a finished cell.
+pub struct Solution {
+    pub used: usize,
+    pub inverse: Normal,
+}
+
+// What a cell comes to.
+pub enum Finish {
+    Failed(u64, usize),
+    Done(Solution),
 }
 
 // Writes the record `used`: its chain goes on with the record after it.
@@ -69,7 +84,7 @@ fn append(
 ) -> Stage
     requires { ⌜ length (now equations) ≡ 2 * records ⌝ }
     requires { ⌜ length (now weights) ≡ 4 * records ⌝ }
-    ensures { λ r. ⌜ told r (now (equations .exit)) (now (weights .exit)) ≡ push records e (building (p .used) (now (equations .entry)) (now (weights .entry)) (p .normal)) ⌝ }
+    ensures { λ r. ⌜ courseAfter r equations weights ≡ push records e (buildingBefore p equations weights) ⌝ }
 {
     let used = p.used;
     if used < records {
@@ -108,10 +123,12 @@ fn offer_at(
     c: usize,
     f: usize,
 ) -> Offer
-    requires { ⌜ Good (lent counts (now adjacency) (now geometry) (now heads) (now places) (now facing) (now bordering) (now codes) (now values)) ⌝ }
+    requires { ⌜ Buildable (lentNow counts adjacency geometry heads places facing bordering codes values) ⌝ }
     requires { ⌜ c < counts .cells ⌝ }
     requires { ⌜ f < counts .faces ⌝ }
-    ensures { λ r. ⌜ r ≡ offer (lent counts (now (adjacency .entry)) (now (geometry .entry)) (now (heads .entry)) (now (places .entry)) (now (facing .entry)) (now (bordering .entry)) (now (codes .entry)) (now (values .entry))) c f ⌝ }
+    ensures offers { λ r.
+        let l = lentBefore counts adjacency geometry heads places facing bordering codes values in
+        ⌜ r ≡ offer l c f ⌝ }
 {
     let here = vector::inner::vector_at(places, 4 * c);
     let n = chain::inner::second_of(adjacency, f);
@@ -153,7 +170,7 @@ fn add_difference(
 ) -> Stage
     requires { ⌜ length (now equations) ≡ 2 * records ⌝ }
     requires { ⌜ length (now weights) ≡ 4 * records ⌝ }
-    ensures { λ r. ⌜ told r (now (equations .exit)) (now (weights .exit)) ≡ weighted records f source offset value (building (p .used) (now (equations .entry)) (now (weights .entry)) (p .normal)) ⌝ }
+    ensures { λ r. ⌜ courseAfter r equations weights ≡ weighted records f source offset value (buildingBefore p equations weights) ⌝ }
 {
     let squared = offset.norm_squared();
     if squared <= binary64::EPSILON {
@@ -190,12 +207,14 @@ fn add_face(
     equations: &mut [usize],
     weights: &mut [f64],
 ) -> Stage
-    requires { ⌜ Good (lent counts (now adjacency) (now geometry) (now heads) (now places) (now facing) (now bordering) (now codes) (now values)) ⌝ }
+    requires { ⌜ Buildable (lentNow counts adjacency geometry heads places facing bordering codes values) ⌝ }
     requires { ⌜ c < counts .cells ⌝ }
     requires { ⌜ f < counts .faces ⌝ }
     requires { ⌜ length (now equations) ≡ 2 * records ⌝ }
     requires { ⌜ length (now weights) ≡ 4 * records ⌝ }
-    ensures { λ r. ⌜ told r (now (equations .exit)) (now (weights .exit)) ≡ addFace (lent counts (now (adjacency .entry)) (now (geometry .entry)) (now (heads .entry)) (now (places .entry)) (now (facing .entry)) (now (bordering .entry)) (now (codes .entry)) (now (values .entry))) records c f (building (p .used) (now (equations .entry)) (now (weights .entry)) (p .normal)) ⌝ }
+    ensures built { λ r.
+        let l = lentBefore counts adjacency geometry heads places facing bordering codes values in
+        ⌜ courseAfter r equations weights ≡ addFace l records c f (buildingBefore p equations weights) ⌝ }
 {
     let o = offer_at(
         counts,
@@ -236,11 +255,13 @@ fn add_faces(
     equations: &mut [usize],
     weights: &mut [f64],
 ) -> Stage
-    requires { ⌜ Good (lent counts (now adjacency) (now geometry) (now heads) (now places) (now facing) (now bordering) (now codes) (now values)) ⌝ }
+    requires { ⌜ Buildable (lentNow counts adjacency geometry heads places facing bordering codes values) ⌝ }
     requires { ⌜ c < counts .cells ⌝ }
     requires { ⌜ length (now equations) ≡ 2 * records ⌝ }
     requires { ⌜ length (now weights) ≡ 4 * records ⌝ }
-    ensures { λ r. ⌜ told r (now (equations .exit)) (now (weights .exit)) ≡ gather (lent counts (now (adjacency .entry)) (now (geometry .entry)) (now (heads .entry)) (now (places .entry)) (now (facing .entry)) (now (bordering .entry)) (now (codes .entry)) (now (values .entry))) records c (building (start .used) (now (equations .entry)) (now (weights .entry)) (start .normal)) ⌝ }
+    ensures built { λ r.
+        let l = lentBefore counts adjacency geometry heads places facing bordering codes values in
+        ⌜ courseAfter r equations weights ≡ gather l records c (buildingBefore start equations weights) ⌝ }
 {
     let mut p = start;
     let mut r = chain::inner::first_of(heads, c);
@@ -290,12 +311,14 @@ fn add_ring_cell(
     equations: &mut [usize],
     weights: &mut [f64],
 ) -> Stage
-    requires { ⌜ Good (lent counts (now adjacency) (now geometry) (now heads) (now places) (now facing) (now bordering) (now codes) (now values)) ⌝ }
+    requires { ⌜ Buildable (lentNow counts adjacency geometry heads places facing bordering codes values) ⌝ }
     requires { ⌜ c < counts .cells ⌝ }
     requires { ⌜ d < counts .cells ⌝ }
     requires { ⌜ length (now equations) ≡ 2 * records ⌝ }
     requires { ⌜ length (now weights) ≡ 4 * records ⌝ }
-    ensures { λ r. ⌜ told r (now (equations .exit)) (now (weights .exit)) ≡ addRing (lent counts (now (adjacency .entry)) (now (geometry .entry)) (now (heads .entry)) (now (places .entry)) (now (facing .entry)) (now (bordering .entry)) (now (codes .entry)) (now (values .entry))) records c d (building (start .used) (now (equations .entry)) (now (weights .entry)) (start .normal)) ⌝ }
+    ensures built { λ r.
+        let l = lentBefore counts adjacency geometry heads places facing bordering codes values in
+        ⌜ courseAfter r equations weights ≡ addRing l records c d (buildingBefore start equations weights) ⌝ }
 {
     let here = vector::inner::vector_at(places, 4 * c);
     let there = vector::inner::vector_at(places, 4 * d);
@@ -337,11 +360,13 @@ fn add_ring(
     equations: &mut [usize],
     weights: &mut [f64],
 ) -> Stage
-    requires { ⌜ Good (lent counts (now adjacency) (now geometry) (now heads) (now places) (now facing) (now bordering) (now codes) (now values)) ⌝ }
+    requires { ⌜ Buildable (lentNow counts adjacency geometry heads places facing bordering codes values) ⌝ }
     requires { ⌜ c < counts .cells ⌝ }
     requires { ⌜ length (now equations) ≡ 2 * records ⌝ }
     requires { ⌜ length (now weights) ≡ 4 * records ⌝ }
-    ensures { λ r. ⌜ told r (now (equations .exit)) (now (weights .exit)) ≡ extend (lent counts (now (adjacency .entry)) (now (geometry .entry)) (now (heads .entry)) (now (places .entry)) (now (facing .entry)) (now (bordering .entry)) (now (codes .entry)) (now (values .entry))) records c (building (start .used) (now (equations .entry)) (now (weights .entry)) (start .normal)) ⌝ }
+    ensures built { λ r.
+        let l = lentBefore counts adjacency geometry heads places facing bordering codes values in
+        ⌜ courseAfter r equations weights ≡ extend l records c (buildingBefore start equations weights) ⌝ }
 {
     let mut p = start;
     let mut d = ring::next_in_ring(counts, heads, bordering, c, 0);
@@ -382,7 +407,7 @@ fn add_normal(
 ) -> Stage
     requires { ⌜ length (now equations) ≡ 2 * records ⌝ }
     requires { ⌜ length (now weights) ≡ 4 * records ⌝ }
-    ensures { λ r. ⌜ told r (now (equations .exit)) (now (weights .exit)) ≡ addNormal records normal (building (p .used) (now (equations .entry)) (now (weights .entry)) (p .normal)) ⌝ }
+    ensures { λ r. ⌜ courseAfter r equations weights ≡ addNormal records normal (buildingBefore p equations weights) ⌝ }
 {
     let length = normal.norm();
     if binary64::far(length) {
@@ -424,12 +449,14 @@ fn add_closing(
     equations: &mut [usize],
     weights: &mut [f64],
 ) -> Stage
-    requires { ⌜ Good (lent counts (now adjacency) (now geometry) (now heads) (now places) (now facing) (now bordering) (now codes) (now values)) ⌝ }
+    requires { ⌜ Buildable (lentNow counts adjacency geometry heads places facing bordering codes values) ⌝ }
     requires { ⌜ c < counts .cells ⌝ }
     requires { ⌜ f < counts .faces ⌝ }
     requires { ⌜ length (now equations) ≡ 2 * records ⌝ }
     requires { ⌜ length (now weights) ≡ 4 * records ⌝ }
-    ensures { λ r. ⌜ told r (now (equations .exit)) (now (weights .exit)) ≡ addClosing (lent counts (now (adjacency .entry)) (now (geometry .entry)) (now (heads .entry)) (now (places .entry)) (now (facing .entry)) (now (bordering .entry)) (now (codes .entry)) (now (values .entry))) records c f (building (p .used) (now (equations .entry)) (now (weights .entry)) (p .normal)) ⌝ }
+    ensures built { λ r.
+        let l = lentBefore counts adjacency geometry heads places facing bordering codes values in
+        ⌜ courseAfter r equations weights ≡ addClosing l records c f (buildingBefore p equations weights) ⌝ }
 {
     let o = offer_at(
         counts,
@@ -471,11 +498,13 @@ fn add_closings(
     equations: &mut [usize],
     weights: &mut [f64],
 ) -> Stage
-    requires { ⌜ Good (lent counts (now adjacency) (now geometry) (now heads) (now places) (now facing) (now bordering) (now codes) (now values)) ⌝ }
+    requires { ⌜ Buildable (lentNow counts adjacency geometry heads places facing bordering codes values) ⌝ }
     requires { ⌜ c < counts .cells ⌝ }
     requires { ⌜ length (now equations) ≡ 2 * records ⌝ }
     requires { ⌜ length (now weights) ≡ 4 * records ⌝ }
-    ensures { λ r. ⌜ told r (now (equations .exit)) (now (weights .exit)) ≡ close (lent counts (now (adjacency .entry)) (now (geometry .entry)) (now (heads .entry)) (now (places .entry)) (now (facing .entry)) (now (bordering .entry)) (now (codes .entry)) (now (values .entry))) records c (building (start .used) (now (equations .entry)) (now (weights .entry)) (start .normal)) ⌝ }
+    ensures built { λ r.
+        let l = lentBefore counts adjacency geometry heads places facing bordering codes values in
+        ⌜ courseAfter r equations weights ≡ close l records c (buildingBefore start equations weights) ⌝ }
 {
     let mut p = start;
     let mut r = chain::inner::first_of(heads, c);
@@ -523,12 +552,14 @@ fn finish_cell(
     p: Progress,
     equations: &mut [usize],
     weights: &mut [f64],
-) -> Stage
-    requires { ⌜ Good (lent counts (now adjacency) (now geometry) (now heads) (now places) (now facing) (now bordering) (now codes) (now values)) ⌝ }
+) -> Finish
+    requires { ⌜ Buildable (lentNow counts adjacency geometry heads places facing bordering codes values) ⌝ }
     requires { ⌜ c < counts .cells ⌝ }
     requires { ⌜ length (now equations) ≡ 2 * records ⌝ }
     requires { ⌜ length (now weights) ≡ 4 * records ⌝ }
-    ensures { λ r. ⌜ told r (now (equations .exit)) (now (weights .exit)) ≡ finish (lent counts (now (adjacency .entry)) (now (geometry .entry)) (now (heads .entry)) (now (places .entry)) (now (facing .entry)) (now (bordering .entry)) (now (codes .entry)) (now (values .entry))) records c (building (p .used) (now (equations .entry)) (now (weights .entry)) (p .normal)) ⌝ }
+    ensures built { λ r.
+        let l = lentBefore counts adjacency geometry heads places facing bordering codes values in
+        ⌜ finishAfter r equations weights ≡ finish l records c (buildingBefore p equations weights) ⌝ }
 {
     let s = add_closings(
         counts,
@@ -546,16 +577,18 @@ fn finish_cell(
         equations,
         weights,
     );
-    let Stage::Going(q) = s else {
-        return s;
-    };
-    let i = matrix::inverse_normal_matrix(counts.dimension, q.normal);
-    match i {
-        Inversion::Inverse(n) => Stage::Going(Progress {
-            used: q.used,
-            normal: n,
-        }),
-        Inversion::Singular => Stage::Halted(8, c),
+    match s {
+        Stage::Halted(k, i) => Finish::Failed(k, i),
+        Stage::Going(q) => {
+            let i = matrix::inverse_normal_matrix(counts.dimension, q.normal);
+            match i {
+                Inversion::Inverse(n) => Finish::Done(Solution {
+                    used: q.used,
+                    inverse: n,
+                }),
+                Inversion::Singular => Finish::Failed(8, c),
+            }
+        }
     }
 }
 
@@ -575,12 +608,14 @@ fn widen_cell(
     p: Progress,
     equations: &mut [usize],
     weights: &mut [f64],
-) -> Stage
-    requires { ⌜ Good (lent counts (now adjacency) (now geometry) (now heads) (now places) (now facing) (now bordering) (now codes) (now values)) ⌝ }
+) -> Finish
+    requires { ⌜ Buildable (lentNow counts adjacency geometry heads places facing bordering codes values) ⌝ }
     requires { ⌜ c < counts .cells ⌝ }
     requires { ⌜ length (now equations) ≡ 2 * records ⌝ }
     requires { ⌜ length (now weights) ≡ 4 * records ⌝ }
-    ensures { λ r. ⌜ told r (now (equations .exit)) (now (weights .exit)) ≡ widen (lent counts (now (adjacency .entry)) (now (geometry .entry)) (now (heads .entry)) (now (places .entry)) (now (facing .entry)) (now (bordering .entry)) (now (codes .entry)) (now (values .entry))) records c (building (p .used) (now (equations .entry)) (now (weights .entry)) (p .normal)) ⌝ }
+    ensures built { λ r.
+        let l = lentBefore counts adjacency geometry heads places facing bordering codes values in
+        ⌜ finishAfter r equations weights ≡ widen l records c (buildingBefore p equations weights) ⌝ }
 {
     let s = add_ring(
         counts,
@@ -598,31 +633,33 @@ fn widen_cell(
         equations,
         weights,
     );
-    let Stage::Going(q) = s else {
-        return s;
-    };
-    let i = matrix::inverse_normal_matrix(counts.dimension, q.normal);
-    match i {
-        Inversion::Inverse(n) => Stage::Going(Progress {
-            used: q.used,
-            normal: n,
-        }),
-        Inversion::Singular => finish_cell(
-            counts,
-            adjacency,
-            geometry,
-            heads,
-            places,
-            facing,
-            bordering,
-            codes,
-            values,
-            c,
-            records,
-            q,
-            equations,
-            weights,
-        ),
+    match s {
+        Stage::Halted(k, i) => Finish::Failed(k, i),
+        Stage::Going(q) => {
+            let i = matrix::inverse_normal_matrix(counts.dimension, q.normal);
+            match i {
+                Inversion::Inverse(n) => Finish::Done(Solution {
+                    used: q.used,
+                    inverse: n,
+                }),
+                Inversion::Singular => finish_cell(
+                    counts,
+                    adjacency,
+                    geometry,
+                    heads,
+                    places,
+                    facing,
+                    bordering,
+                    codes,
+                    values,
+                    c,
+                    records,
+                    q,
+                    equations,
+                    weights,
+                ),
+            }
+        }
     }
 }
 
@@ -642,12 +679,14 @@ fn cell_stencil(
     p: Progress,
     equations: &mut [usize],
     weights: &mut [f64],
-) -> Stage
-    requires { ⌜ Good (lent counts (now adjacency) (now geometry) (now heads) (now places) (now facing) (now bordering) (now codes) (now values)) ⌝ }
+) -> Finish
+    requires { ⌜ Buildable (lentNow counts adjacency geometry heads places facing bordering codes values) ⌝ }
     requires { ⌜ c < counts .cells ⌝ }
     requires { ⌜ length (now equations) ≡ 2 * records ⌝ }
     requires { ⌜ length (now weights) ≡ 4 * records ⌝ }
-    ensures { λ r. ⌜ told r (now (equations .exit)) (now (weights .exit)) ≡ cellStencil (lent counts (now (adjacency .entry)) (now (geometry .entry)) (now (heads .entry)) (now (places .entry)) (now (facing .entry)) (now (bordering .entry)) (now (codes .entry)) (now (values .entry))) records c (building (p .used) (now (equations .entry)) (now (weights .entry)) (p .normal)) ⌝ }
+    ensures built { λ r.
+        let l = lentBefore counts adjacency geometry heads places facing bordering codes values in
+        ⌜ finishAfter r equations weights ≡ cellStencil l records c (buildingBefore p equations weights) ⌝ }
 {
     let s = add_faces(
         counts,
@@ -665,50 +704,52 @@ fn cell_stencil(
         equations,
         weights,
     );
-    let Stage::Going(q) = s else {
-        return s;
-    };
-    let i = matrix::inverse_normal_matrix(counts.dimension, q.normal);
-    match i {
-        Inversion::Inverse(n) => Stage::Going(Progress {
-            used: q.used,
-            normal: n,
-        }),
-        Inversion::Singular => {
-            if counts.dimension == 2 {
-                widen_cell(
-                    counts,
-                    adjacency,
-                    geometry,
-                    heads,
-                    places,
-                    facing,
-                    bordering,
-                    codes,
-                    values,
-                    c,
-                    records,
-                    q,
-                    equations,
-                    weights,
-                )
-            } else {
-                finish_cell(
-                    counts,
-                    adjacency,
-                    geometry,
-                    heads,
-                    places,
-                    facing,
-                    bordering,
-                    codes,
-                    values,
-                    c,
-                    records,
-                    q,
-                    equations,
-                    weights,
-                )
+    match s {
+        Stage::Halted(k, i) => Finish::Failed(k, i),
+        Stage::Going(q) => {
+            let i = matrix::inverse_normal_matrix(counts.dimension, q.normal);
+            match i {
+                Inversion::Inverse(n) => Finish::Done(Solution {
+                    used: q.used,
+                    inverse: n,
+                }),
+                Inversion::Singular => {
+                    if counts.dimension == 2 {
+                        widen_cell(
+                            counts,
+                            adjacency,
+                            geometry,
+                            heads,
+                            places,
+                            facing,
+                            bordering,
+                            codes,
+                            values,
+                            c,
+                            records,
+                            q,
+                            equations,
+                            weights,
+                        )
+                    } else {
+                        finish_cell(
+                            counts,
+                            adjacency,
+                            geometry,
+                            heads,
+                            places,
+                            facing,
+                            bordering,
+                            codes,
+                            values,
+                            c,
+                            records,
+                            q,
+                            equations,
+                            weights,
+                        )
+                    }
+                }
             }
         }
     }
@@ -716,7 +757,7 @@ fn cell_stencil(
 
 // The record that a cell's chain starts with: 0 where it has none.
 fn start_of(old: usize, used: usize) -> usize
-    requires { ⌜ used < 65536 ⌝ }
+    requires { ⌜ used ≤ largestCount ⌝ }
     ensures { λ r. ⌜ r ≡ startOf old used ⌝ }
 {
     if old < used { old + 1 } else { 0 }
@@ -764,13 +805,16 @@ pub fn least_squares_stencil(
     weights: &mut [f64],
     inverses: &mut [f64],
 ) -> Answer
-    requires { ⌜ Good (lent counts (now adjacency) (now geometry) (now heads) (now places) (now facing) (now bordering) (now codes) (now values)) ⌝ }
-    requires { ⌜ (length (now starts) ≡ counts .cells) × (length (now equations) ≡ 2 * records) × (length (now weights) ≡ 4 * records) × (length (now inverses) ≡ 9 * (counts .cells)) × (records < 65536) ⌝ }
-    ensures { λ r. ⌜ r ≡ stencilAnswer (lent counts (now (adjacency .entry)) (now (geometry .entry)) (now (heads .entry)) (now (places .entry)) (now (facing .entry)) (now (bordering .entry)) (now (codes .entry)) (now (values .entry))) records ⌝ }
-    ensures { λ _. ⌜ now (starts .exit) ≡ stencilStarts (lent counts (now (adjacency .entry)) (now (geometry .entry)) (now (heads .entry)) (now (places .entry)) (now (facing .entry)) (now (bordering .entry)) (now (codes .entry)) (now (values .entry))) records ⌝ }
-    ensures { λ _. ⌜ now (equations .exit) ≡ stencilEquations (lent counts (now (adjacency .entry)) (now (geometry .entry)) (now (heads .entry)) (now (places .entry)) (now (facing .entry)) (now (bordering .entry)) (now (codes .entry)) (now (values .entry))) records ⌝ }
-    ensures { λ _. ⌜ now (weights .exit) ≡ stencilWeights (lent counts (now (adjacency .entry)) (now (geometry .entry)) (now (heads .entry)) (now (places .entry)) (now (facing .entry)) (now (bordering .entry)) (now (codes .entry)) (now (values .entry))) records ⌝ }
-    ensures { λ _. ⌜ now (inverses .exit) ≡ stencilInverses (lent counts (now (adjacency .entry)) (now (geometry .entry)) (now (heads .entry)) (now (places .entry)) (now (facing .entry)) (now (bordering .entry)) (now (codes .entry)) (now (values .entry))) records ⌝ }
+    requires { ⌜ Buildable (lentNow counts adjacency geometry heads places facing bordering codes values) ⌝ }
+    requires { ⌜ (length (now starts) ≡ counts .cells)
+        × (length (now equations) ≡ 2 * records)
+        × (length (now weights) ≡ 4 * records)
+        × (length (now inverses) ≡ 9 * (counts .cells))
+        × (records ≤ largestCount) ⌝ }
+    ensures built { λ r.
+        let l = lentBefore counts adjacency geometry heads places facing bordering codes values in
+        let after = slicesAfter starts equations weights inverses in
+        ⌜ (r ≡ stencilAnswer l records) × (after ≡ stencilSlices l records) ⌝ }
 {
     mesh::clear_numbers(starts);
     mesh::clear_numbers(equations);
@@ -810,17 +854,17 @@ pub fn least_squares_stencil(
             weights,
         );
         match s {
-            Stage::Halted(k, i) => {
+            Finish::Failed(k, i) => {
                 mesh::clear_numbers(starts);
                 mesh::clear_numbers(equations);
                 mesh::clear(weights);
                 mesh::clear(inverses);
                 return Answer::Refused(k, i);
             }
-            Stage::Going(q) => {
+            Finish::Done(q) => {
                 starts[c] = start_of(used, q.used);
                 end_chain(used, q.used, equations);
-                put_nine(c, q.normal, inverses);
+                put_nine(c, q.inverse, inverses);
                 used = q.used;
             }
         }

@@ -4,7 +4,7 @@ ghost use mathlib.Core.Path.{_≡_};
 ghost use Prim.Native.Nat.{_+_, _*_, _-_, _<_, _≤_};
 ghost use lib.ListN.{length};
 ghost use Rattle.chain.specs.Chains.{walk, Chain};
-ghost use Rattle.stencil.specs.Ring.{elem, Web, ways, neighboursOf, lower, lowestIn, lowestAll};
+ghost use Rattle.stencil.specs.Ring.{elem, Web, ways, waysBefore, neighboursOf, lowerFresh, lowestIn, lowestAll};
 use mesh::Counts;
 
 // Whether the chain from the record `first` on names d.
@@ -35,7 +35,9 @@ fn lower_of(
 ) -> usize
     requires { ⌜ Web (ways counts (now heads) (now bordering)) ⌝ }
     requires { ⌜ c < counts .cells ⌝ }
-    ensures { λ r. ⌜ r ≡ lower (ways counts (now (heads .entry)) (now (bordering .entry))) c from lowest d ⌝ }
+    ensures lowest { λ r.
+        let w = waysBefore counts heads bordering in
+        ⌜ r ≡ lowerFresh w c from lowest d ⌝ }
 {
     if from <= d {
         if d < lowest {
@@ -63,7 +65,9 @@ fn lowest_in(
     requires { ⌜ Web (ways counts (now heads) (now bordering)) ⌝ }
     requires { ⌜ c < counts .cells ⌝ }
     requires { ⌜ n < counts .cells ⌝ }
-    ensures { λ r. ⌜ r ≡ lowestIn (ways counts (now (heads .entry)) (now (bordering .entry))) c from best (neighboursOf (ways counts (now (heads .entry)) (now (bordering .entry))) n) ⌝ }
+    ensures lowest { λ r.
+        let w = waysBefore counts heads bordering in
+        ⌜ r ≡ lowestIn w c from best (neighboursOf w n) ⌝ }
 {
     let mut lowest = best;
     let mut r = chain::inner::second_of(heads, n);
@@ -85,7 +89,9 @@ pub fn next_in_ring(
 ) -> usize
     requires { ⌜ Web (ways counts (now heads) (now bordering)) ⌝ }
     requires { ⌜ c < counts .cells ⌝ }
-    ensures { λ r. ⌜ r ≡ lowestAll (ways counts (now (heads .entry)) (now (bordering .entry))) c from (counts .cells) (neighboursOf (ways counts (now (heads .entry)) (now (bordering .entry))) c) ⌝ }
+    ensures lowest { λ r.
+        let w = waysBefore counts heads bordering in
+        ⌜ r ≡ lowestAll w c from (counts .cells) (neighboursOf w c) ⌝ }
 {
     let mut lowest = counts.cells;
     let mut r = chain::inner::second_of(heads, c);

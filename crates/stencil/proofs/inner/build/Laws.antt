@@ -10,13 +10,18 @@ use borrow.Author.Tests.{ltb-true, ltb-false}
 use lib.Ieee.{Float}
 use Rattle.matrix.specs.declared.Normal.{Normal}
 use Rattle.chain.specs.Chains.{itemOf, nextOf, walk, Chain}
-use Rattle.stencil.specs.Ring.{Ways, inRing, upFrom, ring}
+use Rattle.numerics.specs.Slices.{fromCell}
+use Rattle.mesh.specs.Records.{peerAt}
+use Rattle.mesh.proofs.Facts.{peer-below}
+use Rattle.stencil.specs.Lent.{Lent, Buildable, webOf}
+use Rattle.stencil.specs.Ring.{Ways, Web, inRing, upFrom, ring}
 use Rattle.chain.proofs.Chains.{Onward, onward, walk-over}
 use Rattle.stencil.proofs.inner.ring.Laws.{cases, found, ring-over, ring-next}
 use Rattle.stencil.specs.declared.inner.build.Progress.{Progress}
 use Rattle.stencil.specs.declared.inner.build.Stage.{Stage}
 use Rattle.stencil.specs.declared.inner.build.Stage.the-variants.{Halted, Going}
-use Rattle.stencil.specs.Building.{Building, building, Outcome, going, andThen, overAll, told}
+use Rattle.stencil.specs.declared.inner.build.Finish.the-variants.{Failed}
+use Rattle.stencil.specs.Building.{Building, building, Solved, Course, stopped, going, andThen, overAll, courseOf, finishOf}
 
 pub two-in : {k n i : ℕ} → k ≡ 2 * n → i < n → 2 * i + 1 < k
 two-in {k} {n} {i} e h = omega arith
@@ -37,36 +42,47 @@ falls {i} {n} h = omega arith
 pub below-pred : {a n : ℕ} → a ≤ n → (a ≡ 0 → ⊥) → a - 1 < n
 below-pred {a} {n} h z = omega arith
 
+-- the source that is the cell before a number that is not 0
+pub after-pred : {a : ℕ} → (a ≡ 0 → ⊥) → a + 1 ≡ fromCell (a - 1)
+after-pred {a} z = omega arith
+
 pub same-going : {u : ℕ} {e f : List ℕ} {w v : List Float} {n : Normal} → e ≡ f → w ≡ v
     → going (building u e w n) ≡ going (building u f v n)
 same-going p q = rw (p, q)
+
+-- what the neighbours' search asks for, and where a link goes
+pub web-of : (l : Lent) → Buildable l → Web (webOf (l .mesh))
+web-of l g = record { heads-size = g .sized .heads; bordering-size = g .sized .bordering; ended = g .sound .borderings }
+
+pub peer-face : (l : Lent) → Buildable l → (f : ℕ) → f < l .mesh .counts .faces → peerAt (l .bounds .codes) f ≤ l .mesh .counts .faces
+peer-face l g f h = peer-below (l .mesh .adjacency) (l .bounds .codes) (l .mesh .counts .faces) f (g .codes) (g .sound .links f h)
 
 -- a building in the slices that a function holds
 abbrev pub held : Progress → List ℕ → List Float → Building
 held p e w = building (p .used) e w (p .normal)
 
 -- the slices have the lengths of so many records
-pub record Sized (records : ℕ) (e : List ℕ) (w : List Float) : Type 0 where
+pub record RecordSized (records : ℕ) (e : List ℕ) (w : List Float) : Type 0 where
   pub numbers : length e ≡ 2 * records
   pub floats : length w ≡ 4 * records
 
 -- one item done: a step that goes on leaves the rest to do, and one that stops is the whole
-module _ (step : ℕ → Building → Outcome) (i : ℕ) (is : List ℕ) (b : Building) (s : Stage) (e : List ℕ) (w : List Float)
-    (is-step : told s e w ≡ step i b) where
+module _ (step : ℕ → Building → Course Building) (i : ℕ) (is : List ℕ) (b : Building) (s : Stage) (e : List ℕ) (w : List Float)
+    (is-step : courseOf s e w ≡ step i b) where
   pub steps-on : (q : Progress) → s ≡ Going q → overAll step is (held q e w) ≡ overAll step (i ∷ is) b
-  unfolding overAll andThen told
+  unfolding overAll andThen courseOf
   steps-on q h = rw (← is-step, h)
 
-  pub steps-out : (k j : ℕ) → s ≡ Halted k j → told s e w ≡ overAll step (i ∷ is) b
-  unfolding overAll andThen told
+  pub steps-out : (k j : ℕ) → s ≡ Halted k j → courseOf s e w ≡ overAll step (i ∷ is) b
+  unfolding overAll andThen courseOf
   steps-out k j h = rw (← is-step, h)
 
 -- a walk of a chain that makes a step at each record: what is left to do comes to the whole
-pub record Walking (step : ℕ → Building → Outcome) (l : List ℕ) (n limit : ℕ) (whole : Outcome) (b : Building) (r : ℕ) : Type 0 where
+pub record Walking (step : ℕ → Building → Course Building) (l : List ℕ) (n limit : ℕ) (whole : Course Building) (b : Building) (r : ℕ) : Type 0 where
   pub chain : Chain l n limit r
   pub rest : overAll step (walk l n r) b ≡ whole
 
-module _ (step : ℕ → Building → Outcome) (l : List ℕ) (n limit : ℕ) (whole : Outcome) (b : Building) (r : ℕ)
+module _ (step : ℕ → Building → Course Building) (l : List ℕ) (n limit : ℕ) (whole : Course Building) (b : Building) (r : ℕ)
     (w : Walking step l n limit whole b r) where
   pub walk-next : (r ≡ 0 → ⊥) → Onward l n limit r
   walk-next z = onward l n limit r (w .chain) z
@@ -75,7 +91,7 @@ module _ (step : ℕ → Building → Outcome) (l : List ℕ) (n limit : ℕ) (w
       → Walking step l n limit whole d (nextOf l r)
   walk-more z d h = record { chain = walk-next z .rest; rest = h ∙ sym (rw (walk-next z .cons)) ∙ w .rest }
 
-  pub walk-stop : (z : r ≡ 0 → ⊥) (o : Outcome) → o ≡ overAll step (itemOf l r ∷ walk l n (nextOf l r)) b → o ≡ whole
+  pub walk-stop : (z : r ≡ 0 → ⊥) (o : Course Building) → o ≡ overAll step (itemOf l r ∷ walk l n (nextOf l r)) b → o ≡ whole
   walk-stop z o h = h ∙ sym (rw (walk-next z .cons)) ∙ w .rest
 
   pub walk-done : r ≡ 0 → going b ≡ whole
@@ -83,13 +99,13 @@ module _ (step : ℕ → Building → Outcome) (l : List ℕ) (n limit : ℕ) (w
   walk-done z = sym (rw (walk-over l n r z)) ∙ w .rest
 
 -- the same over the second ring of a cell: d is the next to come
-pub record Ringing (step : ℕ → Building → Outcome) (w : Ways) (c : ℕ) (whole : Outcome) (b : Building) (d : ℕ) : Type 0 where
+pub record Ringing (step : ℕ → Building → Course Building) (w : Ways) (c : ℕ) (whole : Course Building) (b : Building) (d : ℕ) : Type 0 where
   pub from : ℕ
   pub within : from ≤ w .counts .cells
   pub at : d ≡ found w c from
   pub rest : overAll step (upFrom (inRing w c) (w .counts .cells - from) from) b ≡ whole
 
-module _ (step : ℕ → Building → Outcome) (w : Ways) (c : ℕ) (whole : Outcome) (b : Building) (d : ℕ)
+module _ (step : ℕ → Building → Course Building) (w : Ways) (c : ℕ) (whole : Course Building) (b : Building) (d : ℕ)
     (g : Ringing step w c whole b d) where
   abbrev pub after : List ℕ
   after = upFrom (inRing w c) (w .counts .cells - (d + 1)) (d + 1)
@@ -101,14 +117,14 @@ module _ (step : ℕ → Building → Outcome) (w : Ways) (c : ℕ) (whole : Out
       → (e : ℕ) → e ≡ found w c (d + 1) → Ringing step w c whole k e
   ring-more k h q e f = record { from = d + 1; within = omega arith; at = f; rest = q ∙ ahead h }
 
-  pub ring-stop : (o : Outcome) → d < w .counts .cells → o ≡ overAll step (d ∷ after) b → o ≡ whole
+  pub ring-stop : (o : Course Building) → d < w .counts .cells → o ≡ overAll step (d ∷ after) b → o ≡ whole
   ring-stop o h q = q ∙ ahead h
 
   pub ring-done : w .counts .cells ≤ d → going b ≡ whole
   unfolding overAll
   ring-done h = sym (rw (ring-over w c (g .from) (g .within) (rw (g .at) at h))) ∙ g .rest
 
-pub ring-start : (step : ℕ → Building → Outcome) (w : Ways) (c : ℕ) (b : Building) (e : ℕ) → e ≡ found w c 0
+pub ring-start : (step : ℕ → Building → Course Building) (w : Ways) (c : ℕ) (b : Building) (e : ℕ) → e ≡ found w c 0
     → Ringing step w c (overAll step (ring w c) b) b e
 unfolding ring
 ring-start step w c b e q =
@@ -124,11 +140,11 @@ rises w c d e h q =
     (cases (ltb e (w .counts .cells)))
 
 -- a phase and what follows it
-module _ (x : Outcome) (g : Building → Outcome) (s : Stage) (e : List ℕ) (w : List Float) (is-phase : told s e w ≡ x) where
+module _ (x : Course Building) (g : Building → Course Solved) (s : Stage) (e : List ℕ) (w : List Float) (is-phase : courseOf s e w ≡ x) where
   pub then-on : (q : Progress) → s ≡ Going q → g (held q e w) ≡ andThen x g
-  unfolding andThen told
+  unfolding andThen courseOf
   then-on q h = rw (← is-phase, h)
 
-  pub then-out : (k j : ℕ) → s ≡ Halted k j → told s e w ≡ andThen x g
-  unfolding andThen told
+  pub then-out : (k j : ℕ) → s ≡ Halted k j → finishOf (Failed k j) e w ≡ andThen x g
+  unfolding andThen courseOf finishOf
   then-out k j h = rw (← is-phase, h)

@@ -15,15 +15,16 @@ use borrow.Author.Tests.{ltb-true, leb-true, le-leb, lt-ltb, ne-eqb}
 use Rattle.chain.specs.Pairs.{firstAt, secondAt}
 use Rattle.chain.specs.Chains.{itemOf, nextOf, ends, Chain}
 use Rattle.chain.proofs.Truth.{and-true}
+use Rattle.numerics.specs.Slices.{fromCell}
 use Rattle.stencil.proofs.inner.ring.Laws.{cases}
 use Rattle.stencil.specs.declared.inner.build.Equation.{Equation}
 use Rattle.matrix.specs.Normal.{zero9}
-use Rattle.stencil.specs.Lent.{Lent, Good}
+use Rattle.stencil.specs.Lent.{Lent, Buildable}
 use Rattle.mesh.specs.declared.Answer.the-variants.{Accepted}
-use Rattle.stencil.specs.Stencil.{startOf, endedAt, Stencil, Result, refused, built, joined, addCell, below, answerOf, handedOut, stencilAnswer, stencilEquations, stencilStarts}
-use Rattle.stencil.specs.Building.{building, Outcome, stopped, going, recordNumbers}
+use Rattle.stencil.specs.Stencil.{startOf, endedAt, Stencil, Result, refused, built, joined, addCell, below, answerOf, slicesOf, stencilAnswer, stencilSlices}
+use Rattle.stencil.specs.Building.{building, Solved, Course, stopped, going, recordNumbers}
 use Rattle.stencil.proofs.inner.build.Whole.{length-ended}
-use Rattle.stencil.proofs.inner.build.Within.{Within, cell-within}
+use Rattle.stencil.proofs.inner.build.Within.{Finishes, cell-within}
 
 -- the records from `old` on, each followed by the next; those before it are as they were in l0
 pub record Open (n limit old : ℕ) (l0 l : List ℕ) (used : ℕ) : Type 0 where
@@ -148,14 +149,14 @@ module _ (n limit old : ℕ) (l0 l : List ℕ) (used : ℕ) (o : Open n limit ol
 
 module _ (m : Lent) (records : ℕ) where
   abbrev limit : ℕ
-  limit = m .counts .cells + 2
+  limit = fromCell (m .mesh .counts .cells)
 
   -- the chains of the cells below c are sound, among the records used
   record Sounding (c : ℕ) (s : Stencil) : Type 0 where
-    size : length (s .equations) ≡ 2 * records
-    starts-size : length (s .starts) ≡ m .counts .cells
+    size : length (s .slices .equations) ≡ 2 * records
+    starts-size : length (s .slices .starts) ≡ m .mesh .counts .cells
     room : s .used ≤ records
-    chain : (d : ℕ) → d < c → Chain (s .equations) (s .used) limit (getD (s .starts) d 0)
+    chain : (d : ℕ) → d < c → Chain (s .slices .equations) (s .used) limit (getD (s .slices .starts) d 0)
 
   abbrev Sounds : ℕ → Result → Type 0
   Sounds c (refused k i) = 0 ≤ k
@@ -163,39 +164,39 @@ module _ (m : Lent) (records : ℕ) where
 
   -- what the cell under way adds
   abbrev Opens : Stencil → ℕ → List ℕ → Type 0
-  Opens s u l = Open records limit (s .used) (s .equations) l u
+  Opens s u l = Open records limit (s .used) (s .slices .equations) l u
 
-  moved : (s : Stencil) (u : ℕ) (l : List ℕ) (r : ℕ) → Opens s u l → Chain (s .equations) (s .used) limit r
+  moved : (s : Stencil) (u : ℕ) (l : List ℕ) (r : ℕ) → Opens s u l → Chain (s .slices .equations) (s .used) limit r
       → Chain (endedAt (s .used) u l) u limit r
   moved s u l r o c = record {
     left = c .left;
     within = omega (arith, c .within, o .low);
     sound =
-        carried (s .equations) (endedAt (s .used) u l) (s .used) u limit (c .left) r (o .low)
-        (ended-kept records limit (s .used) (s .equations) l u o) (c .sound);
+        carried (s .slices .equations) (endedAt (s .used) u l) (s .used) u limit (c .left) r (o .low)
+        (ended-kept records limit (s .used) (s .slices .equations) l u o) (c .sound);
   }
 
-  joined-sound : (c : ℕ) (s : Stencil) → c < m .counts .cells → Sounding c s → (o : Outcome) → Within (Opens s) o → Sounds (c + 1) (joined c s o)
+  joined-sound : (c : ℕ) (s : Stencil) → c < m .mesh .counts .cells → Sounding c s → (o : Course Solved) → Finishes (Opens s) o → Sounds (c + 1) (joined c s o)
   unfolding joined
   joined-sound c s h g (stopped k i) p = zero-le
   joined-sound c s h g (going b) p =
       let first = startOf (s .used) (b .used) in
-      let fit : c < length (s .starts) = omega (arith, g .starts-size) in
+      let fit : c < length (s .slices .starts) = omega (arith, g .starts-size) in
       record {
         size = length-ended (s .used) (b .used) (b .equations) ∙ p .size;
-        starts-size = length-set (s .starts) c first ∙ g .starts-size;
+        starts-size = length-set (s .slices .starts) c first ∙ g .starts-size;
         room = p .room;
         chain =
-            below-more (λ d. Chain (endedAt (s .used) (b .used) (b .equations)) (b .used) limit (getD (set (s .starts) c first) d 0)) c
-            (λ d a. rw (getD-set-other (s .starts) c d first 0 (ne-of-lt a)) (moved s (b .used) (b .equations) _ p (g .chain d a)))
-            (rw (getD-set-same (s .starts) c first 0 fit) (own-chain records limit (s .used) (s .equations) (b .equations) (b .used) p));
+            below-more (λ d. Chain (endedAt (s .used) (b .used) (b .equations)) (b .used) limit (getD (set (s .slices .starts) c first) d 0)) c
+            (λ d a. rw (getD-set-other (s .slices .starts) c d first 0 (ne-of-lt a)) (moved s (b .used) (b .equations) _ p (g .chain d a)))
+            (rw (getD-set-same (s .slices .starts) c first 0 fit) (own-chain records limit (s .used) (s .slices .equations) (b .equations) (b .used) p));
       }
 
-  add-sound : Good m → (c : ℕ) (r : Result) → c < m .counts .cells → Sounds c r → Sounds (c + 1) (addCell m records c r)
+  add-sound : Buildable m → (c : ℕ) (r : Result) → c < m .mesh .counts .cells → Sounds c r → Sounds (c + 1) (addCell m records c r)
   unfolding addCell
   add-sound good c (refused k i) h g = zero-le
   add-sound good c (built s) h g =
-      let start : Opens s (s .used) (s .equations) =
+      let start : Opens s (s .used) (s .slices .equations) =
       record {
         size = g .size;
         low = le-refl _;
@@ -205,10 +206,10 @@ module _ (m : Lent) (records : ℕ) where
         next = λ k a b. absurd (omega arith);
       } in
       joined-sound c s h g _
-      (cell-within (Opens s) records m good (λ l u e o a b. opened records limit (s .used) (s .equations) l u e o a b) c h
-      (building (s .used) (s .equations) (s .weights) zero9) start)
+      (cell-within (Opens s) records m good (λ l u e o a b. opened records limit (s .used) (s .slices .equations) l u e o a b) c h
+      (building (s .used) (s .slices .equations) (s .slices .weights) zero9) start)
 
-  all-sound : Good m → (c : ℕ) → c ≤ m .counts .cells → Sounds c (below m records c)
+  all-sound : Buildable m → (c : ℕ) → c ≤ m .mesh .counts .cells → Sounds c (below m records c)
   unfolding below
   all-sound good zero h = record {
     size = length-replicate _ _;
@@ -221,25 +222,25 @@ module _ (m : Lent) (records : ℕ) where
       (add-sound good c (below m records c) (omega arith) (all-sound good c (omega arith)))
 
   -- an accepted stencil: the equations of each cell are a sound chain
-  pub sound : Good m → (s : Stencil) → below m records (m .counts .cells) ≡ built s → (c : ℕ) → c < m .counts .cells
-      → Chain (s .equations) records (m .counts .cells + 2) (getD (s .starts) c 0)
+  pub sound : Buildable m → (s : Stencil) → below m records (m .mesh .counts .cells) ≡ built s → (c : ℕ) → c < m .mesh .counts .cells
+      → Chain (s .slices .equations) records (fromCell (m .mesh .counts .cells)) (getD (s .slices .starts) c 0)
   sound good s e c h =
-      let g : Sounds (m .counts .cells) (built s) = rw e at (all-sound good (m .counts .cells) (le-refl _)) in
+      let g : Sounds (m .mesh .counts .cells) (built s) = rw e at (all-sound good (m .mesh .counts .cells) (le-refl _)) in
       let k = g .chain c h in
       record {
         left = k .left;
         within = omega (arith, k .within, g .room);
-        sound = carried (s .equations) (s .equations) (s .used) records limit (k .left) _ (g .room) (λ i a. refl) (k .sound);
+        sound = carried (s .slices .equations) (s .slices .equations) (s .used) records limit (k .left) _ (g .room) (λ i a. refl) (k .sound);
       }
 
-  from-result : Good m → (r : Result) → below m records (m .counts .cells) ≡ r → Accepted ≡ answerOf r → (c : ℕ) → c < m .counts .cells
-      → Chain (handedOut m records r .equations) records (m .counts .cells + 2) (getD (handedOut m records r .starts) c 0)
-  unfolding answerOf handedOut
+  from-result : Buildable m → (r : Result) → below m records (m .mesh .counts .cells) ≡ r → Accepted ≡ answerOf r → (c : ℕ) → c < m .mesh .counts .cells
+      → Chain (slicesOf m records r .equations) records (fromCell (m .mesh .counts .cells)) (getD (slicesOf m records r .starts) c 0)
+  unfolding answerOf slicesOf
   from-result good (refused k i) e a c h = let z : _≡_ {A = ℕ} 0 1 = cc in absurd (omega arith)
   from-result good (built s) e a c h = sound good s e c h
 
   -- the same of what is handed out, for a caller that is answered `Accepted`
-  pub accepted-sound : Good m → Accepted ≡ stencilAnswer m records → (c : ℕ) → c < m .counts .cells
-      → Chain (stencilEquations m records) records (m .counts .cells + 2) (getD (stencilStarts m records) c 0)
-  unfolding stencilAnswer stencilEquations stencilStarts
-  accepted-sound good a c h = from-result good (below m records (m .counts .cells)) refl a c h
+  pub accepted-sound : Buildable m → Accepted ≡ stencilAnswer m records → (c : ℕ) → c < m .mesh .counts .cells
+      → Chain (stencilSlices m records .equations) records (fromCell (m .mesh .counts .cells)) (getD (stencilSlices m records .starts) c 0)
+  unfolding stencilAnswer stencilSlices
+  accepted-sound good a c h = from-result good (below m records (m .mesh .counts .cells)) refl a c h

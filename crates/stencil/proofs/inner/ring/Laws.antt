@@ -8,7 +8,7 @@ use native.Mathlib.Omega.{arith}
 use native.Mathlib.Nat.{le-refl}
 use lib.Dec.{leb, ltb, eqb}
 use borrow.Author.Tests.{ltb-true, ltb-false, leb-true, eqb-true, eqb-false, eq-eqb, le-leb}
-use Rattle.stencil.specs.Ring.{elem, someOf, Ways, neighboursOf, fresh, beside, inRing, upFrom, lower, lowestIn, lowestAll}
+use Rattle.stencil.specs.Ring.{elem, anyOf, Ways, neighboursOf, fresh, beside, inRing, upFrom, lowerFresh, lowestIn, lowestAll}
 use Rattle.chain.proofs.Truth.{and-true}
 
 pub cases : (b : Bool) → (b ≡ true) ⊎ (b ≡ false)
@@ -52,8 +52,8 @@ module _ (p : ℕ → Bool) (from : ℕ) where
   }
 
 module _ (w : Ways) (c from : ℕ) where
-  one : (best d : ℕ) → Low (fresh w c) from best (eqb d) (lower w c from best d)
-  unfolding lower
+  one : (best d : ℕ) → Low (fresh w c) from best (eqb d) (lowerFresh w c from best d)
+  unfolding lowerFresh
   one best d =
       ⊎-elim
       (λ t.
@@ -90,16 +90,16 @@ module _ (w : Ways) (c from : ℕ) where
       no : false ≡ true → ⊥
       no h = let z : _≡_ {A = ℕ} 0 1 = cc in omega arith
   in-one best (d ∷ ds) =
-      join (fresh w c) from best (lower w c from best d) _ (eqb d) (λ k. elem k ds) (one best d) (in-one (lower w c from best d) ds)
+      join (fresh w c) from best (lowerFresh w c from best d) _ (eqb d) (λ k. elem k ds) (one best d) (in-one (lowerFresh w c from best d) ds)
 
-  in-all : (best : ℕ) (ns : List ℕ) → Low (fresh w c) from best (λ d. someOf (beside w d) ns) (lowestAll w c from best ns)
-  unfolding lowestAll someOf
+  in-all : (best : ℕ) (ns : List ℕ) → Low (fresh w c) from best (λ d. anyOf (beside w d) ns) (lowestAll w c from best ns)
+  unfolding lowestAll anyOf
   in-all best [] = record { under = le-refl best; origin = inl refl; least = λ d e l q. absurd (no e) }
     where
       no : false ≡ true → ⊥
       no h = let z : _≡_ {A = ℕ} 0 1 = cc in omega arith
   in-all best (n ∷ ns) =
-      join (fresh w c) from best (lowestIn w c from best (neighboursOf w n)) _ (λ d. beside w d n) (λ d. someOf (beside w d) ns)
+      join (fresh w c) from best (lowestIn w c from best (neighboursOf w n)) _ (λ d. beside w d n) (λ d. anyOf (beside w d) ns)
       (in-one best (neighboursOf w n)) (in-all (lowestIn w c from best (neighboursOf w n)) ns)
 
 -- where p fails throughout, the list is empty; where it first holds at e, it starts there

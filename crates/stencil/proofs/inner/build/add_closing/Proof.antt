@@ -1,6 +1,6 @@
 -- `stencil::inner::build::add_closing` meets its contract.
 use borrow.Author.Needs.{needs}
-use Rattle.stencil.specs.Building.{told}
+use Rattle.stencil.specs.Building.{courseOf}
 use Rattle.stencil.specs.Cell.{addClosing, closing}
 use Rattle.stencil.proofs.inner.build.add_closing.Statement.{statement}
 use Rattle.stencil.proofs.inner.build.add_closing.Tie as tie
@@ -21,7 +21,9 @@ vector-at-requires : tie.Need-vector-at-requires
 vector-at-requires c κs = search needs
 
 add-normal-requires : tie.Need-add-normal-requires
-add-normal-requires c κs = search needs
+add-normal-requires c κs =
+    let s : tie.Start = search in
+    (s .pre .1 .1 .1 .0, s .pre .1 .1 .1 .1)
 
 enum-told-2 : tie.Need-enum-told-2
 enum-told-2 c = search needs
@@ -45,13 +47,13 @@ returns c =
     rw (← a .offer-at .ensures, e .enum-told .given .1, ← v .vector-at .ensures) (n .add-normal .ensures)
 
 returns-2 : tie.Need-returns-2
-unfolding addClosing closing told
+unfolding addClosing closing courseOf
 returns-2 c =
     let a : tie.After-offer-at = search in
     rw (← a .offer-at .ensures, c .enum-told2 .given .1)
 
 returns-3 : tie.Need-returns-3
-unfolding addClosing closing told
+unfolding addClosing closing courseOf
 returns-3 c =
     let a : tie.After-offer-at = search in
     rw (← a .offer-at .ensures, c .enum-told3 .given .1)

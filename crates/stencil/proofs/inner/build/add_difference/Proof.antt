@@ -1,6 +1,6 @@
 -- `stencil::inner::build::add_difference` meets its contract.
 use borrow.Author.Needs.{needs}
-use Rattle.stencil.specs.Building.{told}
+use Rattle.stencil.specs.Building.{courseOf}
 use Rattle.stencil.specs.Cell.{weighted}
 use Rattle.stencil.proofs.inner.build.add_difference.Statement.{statement}
 use Rattle.stencil.proofs.inner.build.add_difference.Tie as tie
@@ -9,7 +9,7 @@ norm-squared-requires : tie.Need-norm-squared-requires
 norm-squared-requires c κs = search needs
 
 returns : tie.Need-returns
-unfolding weighted told
+unfolding weighted courseOf
 returns c = rw (← c .before .norm-squared .ensures, c .if1 .taken)
 
 scale-requires : tie.Need-scale-requires

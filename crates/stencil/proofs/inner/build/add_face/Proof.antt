@@ -1,6 +1,6 @@
 -- `stencil::inner::build::add_face` meets its contract.
 use borrow.Author.Needs.{needs}
-use Rattle.stencil.specs.Building.{told}
+use Rattle.stencil.specs.Building.{courseOf}
 use Rattle.stencil.specs.Cell.{addFace, offered}
 use Rattle.stencil.proofs.inner.build.add_face.Statement.{statement}
 use Rattle.stencil.proofs.inner.build.add_face.Tie as tie
@@ -23,13 +23,13 @@ add-difference-requires c κs =
     (s .pre .1 .1 .1 .0, s .pre .1 .1 .1 .1)
 
 returns : tie.Need-returns
-unfolding addFace offered told
+unfolding addFace offered courseOf
 returns c =
     let a : tie.After-offer-at = search in
     rw (← a .offer-at .ensures, c .enum-told .given .1)
 
 returns-2 : tie.Need-returns-2
-unfolding addFace offered told
+unfolding addFace offered courseOf
 returns-2 c =
     let a : tie.After-offer-at = search in
     rw (← a .offer-at .ensures, c .enum-told2 .given .1)

@@ -1,6 +1,6 @@
 -- `stencil::inner::build::add_normal` meets its contract.
 use borrow.Author.Needs.{needs}
-use Rattle.stencil.specs.Building.{told}
+use Rattle.stencil.specs.Building.{courseOf}
 use Rattle.stencil.specs.Cell.{addNormal}
 use Rattle.stencil.proofs.inner.build.add_normal.Statement.{statement}
 use Rattle.stencil.proofs.inner.build.add_normal.Tie as tie
@@ -38,7 +38,7 @@ returns c =
     rw (← l .norm .ensures, ← f .far .ensures, t .if1 .taken, ← d .div .ensures, ← o .add-outer .ensures) (a .append .ensures)
 
 returns-2 : tie.Need-returns-2
-unfolding addNormal told
+unfolding addNormal courseOf
 returns-2 c =
     let l : tie.After-norm = search in
     rw (← l .norm .ensures, ← c .before .far .ensures, c .if1 .left)

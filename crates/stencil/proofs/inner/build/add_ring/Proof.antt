@@ -5,17 +5,17 @@ use Prim.Native.Nat.{ℕ, _-_}
 use native.Mathlib.Omega.{arith}
 use denote.Ref.{now}
 use Rattle.stencil.specs.Lent.{Lent, lent, webOf}
-use Rattle.stencil.specs.Building.{Building, Outcome, told}
+use Rattle.stencil.specs.Building.{Building, Course, courseOf}
 use Rattle.stencil.specs.Cell.{addRing, extend}
-use Rattle.stencil.proofs.inner.build.Laws.{Sized, held, Ringing, after, ring-start, ring-more, ring-stop, ring-done, rises, steps-on, steps-out}
+use Rattle.stencil.proofs.inner.build.Laws.{web-of, RecordSized, held, Ringing, after, ring-start, ring-more, ring-stop, ring-done, rises, steps-on, steps-out}
 use Rattle.stencil.proofs.inner.build.add_ring.Statement.{statement}
 use Rattle.stencil.proofs.inner.build.add_ring.Tie as tie
 
 abbrev Inv-loop : tie.InvT-loop
 Inv-loop counts adjacency geometry heads places facing bordering codes values c records equations₀ weights₀ p₀ d₀ equations weights p d =
     let m = lent counts adjacency geometry heads places facing bordering codes values in
-    Sized records equations weights
-    × Ringing (addRing m records c) (webOf m) c (extend m records c (held p₀ equations₀ weights₀)) (held p equations weights) d
+    RecordSized records equations weights
+    × Ringing (addRing m records c) (webOf (m .mesh)) c (extend m records c (held p₀ equations₀ weights₀)) (held p equations weights) d
 
 abbrev μ-loop : tie.MeasureT-loop
 μ-loop counts adjacency geometry heads places facing bordering codes values c records equations₀ weights₀ p₀ d₀ equations weights p d =
@@ -30,10 +30,10 @@ lentTo s =
 abbrev entry : tie.Then1 Inv-loop μ-loop → tie.Start Inv-loop μ-loop
 entry c = c .before .before .before .before .before .before .before .before .before .before .before .before .before .before
 
-abbrev stepAt : tie.Then1 Inv-loop μ-loop → ℕ → Building → Outcome
+abbrev stepAt : tie.Then1 Inv-loop μ-loop → ℕ → Building → Course Building
 stepAt c = addRing (lentTo (entry c)) (entry c .args .records) (entry c .args .c)
 
-abbrev wholeOf : tie.Then1 Inv-loop μ-loop → Outcome
+abbrev wholeOf : tie.Then1 Inv-loop μ-loop → Course Building
 wholeOf c =
     extend (lentTo (entry c)) (entry c .args .records) (entry c .args .c)
     (held (entry c .args .start) (now (entry c .args .equations)) (now (entry c .args .weights)))
@@ -44,14 +44,14 @@ heldAt c = held (c .before .before .loop .p) (c .before .before .loop .equations
 next-in-ring-requires : tie.Need-next-in-ring-requires Inv-loop μ-loop
 next-in-ring-requires c κs =
     let s : tie.Start Inv-loop μ-loop = search in
-    (s .pre .0 .web, s .pre .1 .0)
+    (web-of (lentTo s) (s .pre .0), s .pre .1 .0)
 
 loop-holds : tie.Need-loop-holds Inv-loop μ-loop
 unfolding extend
 loop-holds c =
     let s : tie.Start Inv-loop μ-loop = search in (
       record { numbers = s .pre .1 .1 .0; floats = s .pre .1 .1 .1 },
-      ring-start _ (webOf (lentTo s)) (s .args .c) _ _ (c .next-in-ring .ensures),
+      ring-start _ (webOf (lentTo s .mesh)) (s .args .c) _ _ (c .next-in-ring .ensures),
     )
 
 add-ring-cell-requires : tie.Need-add-ring-cell-requires Inv-loop μ-loop
@@ -83,7 +83,7 @@ returns c =
     let t : tie.Then1 Inv-loop μ-loop = search in
     let a : tie.After-add-ring-cell Inv-loop μ-loop = search in
     let l = t .before .before .loop in
-    let w = webOf (lentTo (entry t)) in
+    let w = webOf (lentTo (entry t) .mesh) in
     ring-stop (stepAt t) w (entry t .args .c) (wholeOf t) (heldAt t) (l .d) (l .inv .1) _ (t .if1 .taken)
     (steps-out (stepAt t) (l .d) (after (stepAt t) w (entry t .args .c) (wholeOf t) (heldAt t) (l .d) (l .inv .1)) (heldAt t)
     (a .add-ring-cell .result) _ _ (a .add-ring-cell .ensures) _ _ (c .enum-told .given .1))
@@ -91,17 +91,17 @@ returns c =
 add-next-in-ring : tie.Need-add-next-in-ring Inv-loop μ-loop
 add-next-in-ring c =
     let t : tie.Then1 Inv-loop μ-loop = search in
-    omega (arith, t .if1 .taken, entry t .pre .0 .web .heads-size, entry t .good .1 .1 .1 .0 .0)
+    omega (arith, t .if1 .taken, entry t .pre .0 .sized .heads, entry t .good .1 .1 .1 .0 .0)
 
 next-in-ring-requires-2 : tie.Need-next-in-ring-requires-2 Inv-loop μ-loop
 next-in-ring-requires-2 c κs =
     let t : tie.Then1 Inv-loop μ-loop = search in
-    (entry t .pre .0 .web, entry t .pre .1 .0)
+    (web-of (lentTo (entry t)) (entry t .pre .0), entry t .pre .1 .0)
 
 loop-less : tie.Need-loop-less Inv-loop μ-loop
 loop-less c =
     let t : tie.Then1 Inv-loop μ-loop = search in
-    rises (webOf (lentTo (entry t))) (entry t .args .c) (t .before .before .loop .d) _ (t .if1 .taken) (c .next-in-ring2 .ensures)
+    rises (webOf (lentTo (entry t) .mesh)) (entry t .args .c) (t .before .before .loop .d) _ (t .if1 .taken) (c .next-in-ring2 .ensures)
 
 loop-again : tie.Need-loop-again Inv-loop μ-loop
 loop-again c =
@@ -109,7 +109,7 @@ loop-again c =
     let a : tie.After-add-ring-cell Inv-loop μ-loop = search in
     let g : tie.After-s Inv-loop μ-loop = search in
     let l = t .before .before .loop in
-    let w = webOf (lentTo (entry t)) in (
+    let w = webOf (lentTo (entry t) .mesh) in (
       record {
         numbers = a .add-ring-cell .kept .1 .1 .1 .1 .1 .1 .1 .1 .1 .1 .1 .1 .1 .0 ∙ l .inv .0 .numbers;
         floats = a .add-ring-cell .kept .1 .1 .1 .1 .1 .1 .1 .1 .1 .1 .1 .1 .1 .1 .0 ∙ l .inv .0 .floats;
@@ -131,10 +131,10 @@ same-length-4 c =
     c .before .before .loop .inv .0 .floats ∙ sym (s .pre .1 .1 .1)
 
 returns-2 : tie.Need-returns-2 Inv-loop μ-loop
-unfolding told
+unfolding courseOf
 returns-2 c =
     let s : tie.Start Inv-loop μ-loop = search in
-    ring-done _ (webOf (lentTo s)) (s .args .c) _ _ (c .before .before .loop .d) (c .before .before .loop .inv .1) (c .if1 .left)
+    ring-done _ (webOf (lentTo s .mesh)) (s .args .c) _ _ (c .before .before .loop .d) (c .before .before .loop .inv .1) (c .if1 .left)
 
 pub add-ring-spec : {M : Type 1} → statement M
 add-ring-spec =

@@ -1,7 +1,7 @@
 -- `stencil::inner::build::add_ring_cell` meets its contract.
 use native.Mathlib.Omega.{arith}
 use borrow.Author.Needs.{needs}
-use Rattle.stencil.specs.Building.{told}
+use Rattle.stencil.specs.Building.{courseOf}
 use Rattle.stencil.specs.Cell.{addRing}
 use Rattle.stencil.proofs.inner.build.add_ring_cell.Statement.{statement}
 use Rattle.stencil.proofs.inner.build.add_ring_cell.Tie as tie
@@ -42,7 +42,7 @@ div-requires-2 c κs = search needs
 add-t29 : tie.Need-add-t29
 add-t29 c =
     let s = c .before .before .before .before .before .before .before .before .before .before .before .before .before .before .before .before .before .before .before .before in
-    omega (arith, s .pre .1 .1 .0, s .pre .0 .places-size, s .good .1 .1 .1 .1 .0 .0)
+    omega (arith, s .pre .1 .1 .0, s .pre .0 .sized .places, s .good .1 .1 .1 .1 .0 .0)
 
 append-requires : tie.Need-append-requires
 append-requires c κs =
@@ -84,7 +84,7 @@ returns c =
     (a .append .ensures)
 
 returns-2 : tie.Need-returns-2
-unfolding addRing told
+unfolding addRing courseOf
 returns-2 c =
     let h : tie.After-vector-at = search in
     let v : tie.After-vector-at2 = search in

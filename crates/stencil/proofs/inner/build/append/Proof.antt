@@ -1,7 +1,7 @@
 -- `stencil::inner::build::append` meets its contract.
 use borrow.Author.Tests.{lt-ltb, le-ltb}
 use borrow.Author.Needs.{needs}
-use Rattle.stencil.specs.Building.{push, told}
+use Rattle.stencil.specs.Building.{push, courseOf}
 use Rattle.stencil.proofs.inner.build.Laws.{same-going}
 use Rattle.stencil.proofs.inner.build.append.Statement.{statement}
 use Rattle.stencil.proofs.inner.build.append.Tie as tie
@@ -19,14 +19,14 @@ same-length-2 : tie.Need-same-length-2
 same-length-2 c = search needs
 
 returns : tie.Need-returns
-unfolding push told
+unfolding push courseOf
 returns c =
     let t : tie.Then1 = search in
     let a : tie.After-put-record = search in
     rw (lt-ltb _ _ (t .if1 .taken)) (same-going (a .put-record .ensures .0) (a .put-record .ensures .1))
 
 returns-2 : tie.Need-returns-2
-unfolding push told
+unfolding push courseOf
 returns-2 c = rw (le-ltb _ _ (c .if1 .left))
 
 pub append-spec : {M : Type 1} → statement M

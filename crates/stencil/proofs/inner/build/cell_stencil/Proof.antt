@@ -4,7 +4,7 @@ use mathlib.Core.Path.{_∙_}
 use denote.Ref.{now}
 use borrow.Author.Needs.{needs}
 use Rattle.stencil.specs.Lent.{Lent, lent}
-use Rattle.stencil.specs.Building.{Building, told}
+use Rattle.stencil.specs.Building.{Building, finishOf}
 use Rattle.stencil.specs.Cell.{gather, gathered, cellStencil, settle}
 use Rattle.stencil.proofs.inner.build.Laws.{held, then-on, then-out}
 use Rattle.stencil.proofs.inner.build.cell_stencil.Statement.{statement}
@@ -15,6 +15,10 @@ lentTo s =
     lent (s .args .counts) (now (s .args .adjacency)) (now (s .args .geometry)) (now (s .args .heads)) (now (s .args .places))
     (now (s .args .facing)) (now (s .args .bordering)) (now (s .args .codes)) (now (s .args .values))
 
+-- the entry, found from the first call
+abbrev startAt : tie.After-add-faces → tie.Start
+startAt a = search
+
 abbrev heldBy : tie.Start → Building
 heldBy s = held (s .args .p) (now (s .args .equations)) (now (s .args .weights))
 
@@ -24,8 +28,29 @@ add-faces-requires c κs = search needs
 enum-known-s : tie.Need-enum-known-s
 enum-known-s c = search needs
 
+enum-known-s-2 : tie.Need-enum-known-s-2
+enum-known-s-2 c = search needs
+
+inverse-normal-matrix-requires : tie.Need-inverse-normal-matrix-requires
+inverse-normal-matrix-requires c κs = search needs
+
+enum-known-i : tie.Need-enum-known-i
+enum-known-i c = search needs
+
 enum-told : tie.Need-enum-told
 enum-told c = search needs
+
+widen-cell-requires : tie.Need-widen-cell-requires
+widen-cell-requires c κs =
+    let a : tie.After-add-faces = search in
+    let s = startAt a in
+    (s .pre .0, (s .pre .1 .0, (a .add-faces .kept .1 .1 .1 .1 .1 .1 .1 .1 .1 .1 .1 .1 .0 ∙ s .pre .1 .1 .0, a .add-faces .kept .1 .1 .1 .1 .1 .1 .1 .1 .1 .1 .1 .1 .1 .0 ∙ s .pre .1 .1 .1)))
+
+finish-cell-requires : tie.Need-finish-cell-requires
+finish-cell-requires c κs =
+    let a : tie.After-add-faces = search in
+    let s = startAt a in
+    (s .pre .0, (s .pre .1 .0, (a .add-faces .kept .1 .1 .1 .1 .1 .1 .1 .1 .1 .1 .1 .1 .0 ∙ s .pre .1 .1 .0, a .add-faces .kept .1 .1 .1 .1 .1 .1 .1 .1 .1 .1 .1 .1 .1 .0 ∙ s .pre .1 .1 .1)))
 
 same-length : tie.Need-same-length
 same-length c = search needs
@@ -36,30 +61,10 @@ same-length-2 c = search needs
 returns : tie.Need-returns
 unfolding cellStencil
 returns c =
-    let s = c .before .before .before .before .before .before .before .before .before .before .before .before .before .before .before .before .before .before .before in
+    let h : tie.After-s = search in
     let a : tie.After-add-faces = search in
-    then-out (gather (lentTo s) (s .args .records) (s .args .c) (heldBy s)) (gathered (lentTo s) (s .args .records) (s .args .c)) (a .add-faces .result) _ _ (a .add-faces .ensures) _ _ (c .enum-told .given .1)
-
-inverse-normal-matrix-requires : tie.Need-inverse-normal-matrix-requires
-inverse-normal-matrix-requires c κs = search needs
-
-enum-known-i : tie.Need-enum-known-i
-enum-known-i c = search needs
-
-enum-told-2 : tie.Need-enum-told-2
-enum-told-2 c = search needs
-
-widen-cell-requires : tie.Need-widen-cell-requires
-widen-cell-requires c κs =
-    let s = c .before .before .before .before .before .before .before .before .before .before .before .before .before .before .before .before .before .before .before .before .before .before .before .before .before .before .before in
-    let a : tie.After-add-faces = c .before .before .before .before .before .before .before .before .before .before .before .before .before .before in
-    (s .pre .0, (s .pre .1 .0, (a .add-faces .kept .1 .1 .1 .1 .1 .1 .1 .1 .1 .1 .1 .1 .0 ∙ s .pre .1 .1 .0, a .add-faces .kept .1 .1 .1 .1 .1 .1 .1 .1 .1 .1 .1 .1 .1 .0 ∙ s .pre .1 .1 .1)))
-
-finish-cell-requires : tie.Need-finish-cell-requires
-finish-cell-requires c κs =
-    let s = c .before .before .before .before .before .before .before .before .before .before .before .before .before .before .before .before .before .before .before .before .before .before .before .before .before .before .before in
-    let a : tie.After-add-faces = c .before .before .before .before .before .before .before .before .before .before .before .before .before .before in
-    (s .pre .0, (s .pre .1 .0, (a .add-faces .kept .1 .1 .1 .1 .1 .1 .1 .1 .1 .1 .1 .1 .0 ∙ s .pre .1 .1 .0, a .add-faces .kept .1 .1 .1 .1 .1 .1 .1 .1 .1 .1 .1 .1 .1 .0 ∙ s .pre .1 .1 .1)))
+    let s = startAt a in
+    then-out (gather (lentTo s) (s .args .records) (s .args .c) (heldBy s)) (gathered (lentTo s) (s .args .records) (s .args .c)) (a .add-faces .result) _ _ (a .add-faces .ensures) _ _ (h .s .given .1)
 
 same-length-3 : tie.Need-same-length-3
 same-length-3 c = search needs
@@ -68,14 +73,14 @@ same-length-4 : tie.Need-same-length-4
 same-length-4 c = search needs
 
 returns-2 : tie.Need-returns-2
-unfolding cellStencil gathered settle told
+unfolding cellStencil gathered settle finishOf
 returns-2 c =
-    let s = c .before .before .before .before .before .before .before .before .before .before .before .before .before .before .before .before .before .before .before .before .before .before .before .before in
-    let a : tie.After-add-faces = c .before .before .before .before .before .before .before .before .before .before .before in
-    let q : tie.After-s = c .before .before .before .before .before in
-    let v : tie.After-inverse-normal-matrix = c .before .before .before in
-    let i : tie.After-i = c .before in
-    rw (← then-on (gather (lentTo s) (s .args .records) (s .args .c) (heldBy s)) (gathered (lentTo s) (s .args .records) (s .args .c)) (a .add-faces .result) _ _ (a .add-faces .ensures) _ (q .s .given .1), ← v .inverse-normal-matrix .ensures, i .i .given .1)
+    let q : tie.After-s2 = search in
+    let v : tie.After-inverse-normal-matrix = search in
+    let i : tie.After-i = search in
+    let a : tie.After-add-faces = search in
+    let s = startAt a in
+    rw (← then-on (gather (lentTo s) (s .args .records) (s .args .c) (heldBy s)) (gathered (lentTo s) (s .args .records) (s .args .c)) (a .add-faces .result) _ _ (a .add-faces .ensures) _ (q .s2 .given .1), ← v .inverse-normal-matrix .ensures, i .i .given .1)
 
 same-length-5 : tie.Need-same-length-5
 same-length-5 c = search needs
@@ -86,14 +91,14 @@ same-length-6 c = search needs
 returns-3 : tie.Need-returns-3
 unfolding cellStencil gathered settle
 returns-3 c =
-    let s = c .before .before .before .before .before .before .before .before .before .before .before .before .before .before .before .before .before .before .before .before .before .before .before .before .before .before .before .before .before .before .before .before in
-    let a : tie.After-add-faces = c .before .before .before .before .before .before .before .before .before .before .before .before .before .before .before .before .before .before .before in
-    let q : tie.After-s = c .before .before .before .before .before .before .before .before .before .before .before .before .before in
-    let v : tie.After-inverse-normal-matrix = c .before .before .before .before .before .before .before .before .before .before .before in
-    let e : tie.After-enum-told2 = c .before .before .before .before .before .before .before .before .before in
-    let t : tie.Then1 = c .before .before .before .before .before .before .before in
-    let f : tie.After-widen-cell = c .before .before .before .before in
-    rw (← then-on (gather (lentTo s) (s .args .records) (s .args .c) (heldBy s)) (gathered (lentTo s) (s .args .records) (s .args .c)) (a .add-faces .result) _ _ (a .add-faces .ensures) _ (q .s .given .1), ← v .inverse-normal-matrix .ensures, e .enum-told2 .given .1, eq-eqb _ _ (t .if1 .taken)) (f .widen-cell .ensures)
+    let q : tie.After-s2 = search in
+    let v : tie.After-inverse-normal-matrix = search in
+    let e : tie.After-enum-told = search in
+    let t : tie.Then1 = search in
+    let f : tie.After-widen-cell = search in
+    let a : tie.After-add-faces = search in
+    let s = startAt a in
+    rw (← then-on (gather (lentTo s) (s .args .records) (s .args .c) (heldBy s)) (gathered (lentTo s) (s .args .records) (s .args .c)) (a .add-faces .result) _ _ (a .add-faces .ensures) _ (q .s2 .given .1), ← v .inverse-normal-matrix .ensures, e .enum-told .given .1, eq-eqb _ _ (t .if1 .taken)) (f .widen-cell .ensures)
 
 same-length-7 : tie.Need-same-length-7
 same-length-7 c = search needs
@@ -104,14 +109,14 @@ same-length-8 c = search needs
 returns-4 : tie.Need-returns-4
 unfolding cellStencil gathered settle
 returns-4 c =
-    let s = c .before .before .before .before .before .before .before .before .before .before .before .before .before .before .before .before .before .before .before .before .before .before .before .before .before .before .before .before .before .before .before .before in
-    let a : tie.After-add-faces = c .before .before .before .before .before .before .before .before .before .before .before .before .before .before .before .before .before .before .before in
-    let q : tie.After-s = c .before .before .before .before .before .before .before .before .before .before .before .before .before in
-    let v : tie.After-inverse-normal-matrix = c .before .before .before .before .before .before .before .before .before .before .before in
-    let e : tie.After-enum-told2 = c .before .before .before .before .before .before .before .before .before in
-    let t : tie.Else1 = c .before .before .before .before .before .before .before in
-    let f : tie.After-finish-cell = c .before .before .before .before in
-    rw (← then-on (gather (lentTo s) (s .args .records) (s .args .c) (heldBy s)) (gathered (lentTo s) (s .args .records) (s .args .c)) (a .add-faces .result) _ _ (a .add-faces .ensures) _ (q .s .given .1), ← v .inverse-normal-matrix .ensures, e .enum-told2 .given .1, ne-eqb _ _ (t .if1 .left)) (f .finish-cell .ensures)
+    let q : tie.After-s2 = search in
+    let v : tie.After-inverse-normal-matrix = search in
+    let e : tie.After-enum-told = search in
+    let t : tie.Else1 = search in
+    let f : tie.After-finish-cell = search in
+    let a : tie.After-add-faces = search in
+    let s = startAt a in
+    rw (← then-on (gather (lentTo s) (s .args .records) (s .args .c) (heldBy s)) (gathered (lentTo s) (s .args .records) (s .args .c)) (a .add-faces .result) _ _ (a .add-faces .ensures) _ (q .s2 .given .1), ← v .inverse-normal-matrix .ensures, e .enum-told .given .1, ne-eqb _ _ (t .if1 .left)) (f .finish-cell .ensures)
 
 pub cell-stencil-spec : {M : Type 1} → statement M
 cell-stencil-spec =
@@ -119,15 +124,15 @@ cell-stencil-spec =
     (tie.spec
     add-faces-requires
     enum-known-s
+    enum-known-s-2
+    inverse-normal-matrix-requires
+    enum-known-i
     enum-told
+    widen-cell-requires
+    finish-cell-requires
     same-length
     same-length-2
     returns
-    inverse-normal-matrix-requires
-    enum-known-i
-    enum-told-2
-    widen-cell-requires
-    finish-cell-requires
     same-length-3
     same-length-4
     returns-2

@@ -2,7 +2,7 @@
 use denote.Ref.{now}
 use borrow.Author.Needs.{needs}
 use Rattle.stencil.specs.Lent.{Lent, lent}
-use Rattle.stencil.specs.Building.{Building, told}
+use Rattle.stencil.specs.Building.{Building, finishOf}
 use Rattle.stencil.specs.Cell.{close, finished, finish, settle}
 use Rattle.stencil.proofs.inner.build.Laws.{held, then-on, then-out}
 use Rattle.stencil.proofs.inner.build.finish_cell.Statement.{statement}
@@ -13,6 +13,10 @@ lentTo s =
     lent (s .args .counts) (now (s .args .adjacency)) (now (s .args .geometry)) (now (s .args .heads)) (now (s .args .places))
     (now (s .args .facing)) (now (s .args .bordering)) (now (s .args .codes)) (now (s .args .values))
 
+-- the entry, found from the first call
+abbrev startAt : tie.After-add-closings → tie.Start
+startAt a = search
+
 abbrev heldBy : tie.Start → Building
 heldBy s = held (s .args .p) (now (s .args .equations)) (now (s .args .weights))
 
@@ -21,6 +25,15 @@ add-closings-requires c κs = search needs
 
 enum-known-s : tie.Need-enum-known-s
 enum-known-s c = search needs
+
+enum-known-s-2 : tie.Need-enum-known-s-2
+enum-known-s-2 c = search needs
+
+inverse-normal-matrix-requires : tie.Need-inverse-normal-matrix-requires
+inverse-normal-matrix-requires c κs = search needs
+
+enum-known-i : tie.Need-enum-known-i
+enum-known-i c = search needs
 
 enum-told : tie.Need-enum-told
 enum-told c = search needs
@@ -34,18 +47,10 @@ same-length-2 c = search needs
 returns : tie.Need-returns
 unfolding finish
 returns c =
-    let s = c .before .before .before .before .before .before .before .before .before .before .before .before .before .before .before .before .before .before .before in
+    let h : tie.After-s = search in
     let a : tie.After-add-closings = search in
-    then-out (close (lentTo s) (s .args .records) (s .args .c) (heldBy s)) (finished (lentTo s) (s .args .c)) (a .add-closings .result) _ _ (a .add-closings .ensures) _ _ (c .enum-told .given .1)
-
-inverse-normal-matrix-requires : tie.Need-inverse-normal-matrix-requires
-inverse-normal-matrix-requires c κs = search needs
-
-enum-known-i : tie.Need-enum-known-i
-enum-known-i c = search needs
-
-enum-told-2 : tie.Need-enum-told-2
-enum-told-2 c = search needs
+    let s = startAt a in
+    then-out (close (lentTo s) (s .args .records) (s .args .c) (heldBy s)) (finished (lentTo s) (s .args .c)) (a .add-closings .result) _ _ (a .add-closings .ensures) _ _ (h .s .given .1)
 
 same-length-3 : tie.Need-same-length-3
 same-length-3 c = search needs
@@ -54,14 +59,14 @@ same-length-4 : tie.Need-same-length-4
 same-length-4 c = search needs
 
 returns-2 : tie.Need-returns-2
-unfolding finish finished settle told
+unfolding finish finished settle finishOf
 returns-2 c =
-    let s = c .before .before .before .before .before .before .before .before .before .before .before .before .before .before .before .before .before .before .before .before .before .before .before .before in
-    let a : tie.After-add-closings = c .before .before .before .before .before .before .before .before .before .before .before in
-    let q : tie.After-s = c .before .before .before .before .before in
-    let v : tie.After-inverse-normal-matrix = c .before .before .before in
-    let i : tie.After-i = c .before in
-    rw (← then-on (close (lentTo s) (s .args .records) (s .args .c) (heldBy s)) (finished (lentTo s) (s .args .c)) (a .add-closings .result) _ _ (a .add-closings .ensures) _ (q .s .given .1), ← v .inverse-normal-matrix .ensures, i .i .given .1)
+    let q : tie.After-s2 = search in
+    let v : tie.After-inverse-normal-matrix = search in
+    let i : tie.After-i = search in
+    let a : tie.After-add-closings = search in
+    let s = startAt a in
+    rw (← then-on (close (lentTo s) (s .args .records) (s .args .c) (heldBy s)) (finished (lentTo s) (s .args .c)) (a .add-closings .result) _ _ (a .add-closings .ensures) _ (q .s2 .given .1), ← v .inverse-normal-matrix .ensures, i .i .given .1)
 
 same-length-5 : tie.Need-same-length-5
 same-length-5 c = search needs
@@ -70,13 +75,14 @@ same-length-6 : tie.Need-same-length-6
 same-length-6 c = search needs
 
 returns-3 : tie.Need-returns-3
-unfolding finish finished settle told
+unfolding finish finished settle finishOf
 returns-3 c =
-    let s = c .before .before .before .before .before .before .before .before .before .before .before .before .before .before .before .before .before .before .before .before .before .before .before in
-    let a : tie.After-add-closings = c .before .before .before .before .before .before .before .before .before .before in
-    let q : tie.After-s = c .before .before .before .before in
-    let v : tie.After-inverse-normal-matrix = c .before .before in
-    rw (← then-on (close (lentTo s) (s .args .records) (s .args .c) (heldBy s)) (finished (lentTo s) (s .args .c)) (a .add-closings .result) _ _ (a .add-closings .ensures) _ (q .s .given .1), ← v .inverse-normal-matrix .ensures, c .enum-told2 .given .1)
+    let q : tie.After-s2 = search in
+    let v : tie.After-inverse-normal-matrix = search in
+    let e : tie.After-enum-told = search in
+    let a : tie.After-add-closings = search in
+    let s = startAt a in
+    rw (← then-on (close (lentTo s) (s .args .records) (s .args .c) (heldBy s)) (finished (lentTo s) (s .args .c)) (a .add-closings .result) _ _ (a .add-closings .ensures) _ (q .s2 .given .1), ← v .inverse-normal-matrix .ensures, e .enum-told .given .1)
 
 pub finish-cell-spec : {M : Type 1} → statement M
 finish-cell-spec =
@@ -84,13 +90,13 @@ finish-cell-spec =
     (tie.spec
     add-closings-requires
     enum-known-s
+    enum-known-s-2
+    inverse-normal-matrix-requires
+    enum-known-i
     enum-told
     same-length
     same-length-2
     returns
-    inverse-normal-matrix-requires
-    enum-known-i
-    enum-told-2
     same-length-3
     same-length-4
     returns-2

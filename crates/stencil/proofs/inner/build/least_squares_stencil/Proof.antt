@@ -7,7 +7,7 @@ use lib.ListN.{length}
 use denote.Ref.{now}
 use Rattle.stencil.specs.Lent.{Lent, lent}
 use Rattle.stencil.proofs.inner.build.Laws.{nine-in, fits, falls}
-use Rattle.stencil.proofs.inner.build.Whole.{Pass, start, roomy, more, stop, finish, accepted, turned-away}
+use Rattle.stencil.proofs.inner.build.Whole.{Pass, start, roomy, more, stop, all-done, accepted, turned-away}
 use Rattle.stencil.proofs.inner.build.least_squares_stencil.Statement.{statement}
 use Rattle.stencil.proofs.inner.build.least_squares_stencil.Tie as tie
 
@@ -190,7 +190,7 @@ returns-2 c =
     let s = c .before .before .before .before .before .before .before .before .before .before .before .before .before .before .before .before .before .before .before .before .before .before .before .before .before .before .before .before .before .before .before in
     let l = c .before .before .loop in
     accepted (lentTo s) (s .args .records) (l .used) (l .starts) (l .equations) (l .weights) (l .inverses)
-    (finish (lentTo s) (s .args .records) (l .c) (l .used) (l .starts) (l .equations) (l .weights) (l .inverses) (l .inv) (c .if1 .left))
+    (all-done (lentTo s) (s .args .records) (l .c) (l .used) (l .starts) (l .equations) (l .weights) (l .inverses) (l .inv) (c .if1 .left))
 
 pub least-squares-stencil-spec : {M : Type 1} → statement M
 least-squares-stencil-spec =

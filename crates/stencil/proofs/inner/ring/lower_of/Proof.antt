@@ -1,7 +1,7 @@
 -- `stencil::inner::ring::lower_of` meets its contract.
 use borrow.Author.Tests.{le-leb, lt-leb, lt-ltb, le-ltb, eq-eqb, ne-eqb}
 use borrow.Author.Needs.{needs}
-use Rattle.stencil.specs.Ring.{lower, fresh}
+use Rattle.stencil.specs.Ring.{lowerFresh, fresh}
 use Rattle.stencil.proofs.inner.ring.lower_of.Statement.{statement}
 use Rattle.stencil.proofs.inner.ring.lower_of.Tie as tie
 
@@ -14,7 +14,7 @@ contains-requires c κs =
     (s .pre .0 .bordering-size, rw (c .second-of .ensures) (s .pre .0 .ended (s .args .c) (s .pre .1)))
 
 returns : tie.Need-returns
-unfolding lower fresh
+unfolding lowerFresh fresh
 returns c =
     let t1 : tie.Then1 = search in
     let t2 : tie.Then2 = search in
@@ -24,7 +24,7 @@ returns c =
     rw (le-leb _ _ (t1 .if1 .taken), lt-ltb _ _ (t2 .if2 .taken), ne-eqb _ _ (t3 .if3 .taken), ← a .second-of .ensures, ← b .contains .ensures, c .if4 .taken)
 
 returns-2 : tie.Need-returns-2
-unfolding lower fresh
+unfolding lowerFresh fresh
 returns-2 c =
     let t1 : tie.Then1 = search in
     let t2 : tie.Then2 = search in
@@ -34,20 +34,20 @@ returns-2 c =
     rw (le-leb _ _ (t1 .if1 .taken), lt-ltb _ _ (t2 .if2 .taken), ne-eqb _ _ (t3 .if3 .taken), ← a .second-of .ensures, ← b .contains .ensures, c .if4 .left)
 
 returns-3 : tie.Need-returns-3
-unfolding lower fresh
+unfolding lowerFresh fresh
 returns-3 c =
     let t1 : tie.Then1 = search in
     let t2 : tie.Then2 = search in
     rw (le-leb _ _ (t1 .if1 .taken), lt-ltb _ _ (t2 .if2 .taken), eq-eqb _ _ (c .if3 .left))
 
 returns-4 : tie.Need-returns-4
-unfolding lower fresh
+unfolding lowerFresh fresh
 returns-4 c =
     let t1 : tie.Then1 = search in
     rw (le-leb _ _ (t1 .if1 .taken), le-ltb _ _ (c .if2 .left))
 
 returns-5 : tie.Need-returns-5
-unfolding lower
+unfolding lowerFresh
 returns-5 c = rw (lt-leb _ _ (c .if1 .left))
 
 pub lower-of-spec : {M : Type 1} → statement M

@@ -141,7 +141,11 @@ fn check_step(
         & (response == counts.mesh)
         & (wall == counts.mesh)
         & (correction == counts.mesh);
-    let a = mesh::shape(mesh::sizes_ok(counts) & (records <= mesh::LARGEST_COUNT), sized, same);
+    let a = mesh::shape(
+        mesh::sizes_ok(counts) & (records <= mesh::LARGEST_COUNT),
+        sized,
+        same,
+    );
     match a {
         Answer::Accepted => mesh::check_topology(
             counts,

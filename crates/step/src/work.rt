@@ -85,8 +85,7 @@ fn correct(
     requires { ⌜ Coupled (grid (now adjacency) (now geometry) (now places)) (length (now responses)) (length (now coefficients)) ⌝ }
     requires { ⌜ Bounded (bounds (now codes) (now values)) (length (now coefficients)) ⌝ }
     requires { ⌜ Begun (grid (now adjacency) (now geometry) (now places)) (now responses) (now coefficients) ⌝ }
-    requires correctable {
-        let lent = correcting (now adjacency) (now codes) (now values) in
+    requires correctable { let lent = correcting (now adjacency) (now codes) (now values) in
         ⌜ Correctable (lent (now predicted) (now coefficients) (now corrections)) ⌝ }
     requires { ⌜ length (now flux) ≡ length (now predicted) ⌝ }
     ensures answer { λ r.
@@ -155,18 +154,15 @@ fn predict(
     predicted: &mut [f64],
 ) -> Answer
     requires { ⌜ Buildable (lentNow counts adjacency geometry heads places facing bordering codes values) ⌝ }
-    requires sized {
-        ⌜ (length (now starts) ≡ counts .cells)
+    requires sized { ⌜ (length (now starts) ≡ counts .cells)
         × (length (now equations) ≡ 2 * records)
         × (length (now weights) ≡ 4 * records)
         × (length (now inverses) ≡ 9 * (counts .cells))
         × (records ≤ largestCount) ⌝ }
-    requires flowing {
-        let m = grid (now adjacency) (now geometry) (now places) in
+    requires flowing { let m = grid (now adjacency) (now geometry) (now places) in
         let q = flow (now velocities) (now pressures) (now gradient) (now responses) in
         ⌜ Flowing m q (length (now walls)) ⌝ }
-    requires long {
-        ⌜ (length (now pressures) ≡ counts .cells)
+    requires long { ⌜ (length (now pressures) ≡ counts .cells)
         × (length (now predicted) ≡ length (now walls))
         × (length (now coefficients) ≡ length (now walls)) ⌝ }
     ensures answer { λ r.
@@ -256,11 +252,9 @@ fn run(
     outflow: &mut [f64],
     metrics: &mut [f64],
 ) -> Answer
-    requires lendable {
-        let m = meshNow counts adjacency geometry heads places facing bordering in
+    requires lendable { let m = meshNow counts adjacency geometry heads places facing bordering in
         ⌜ Lendable (alikeNow m codes values records velocities pressures responses walls corrections) ⌝ }
-    requires fit {
-        let old = outputsNow starts equations weights inverses gradient predicted coefficients flux outflow metrics in
+    requires fit { let old = outputsNow starts equations weights inverses gradient predicted coefficients flux outflow metrics in
         ⌜ OutputsFit counts records old ⌝ }
     ensures answer { λ r.
         let m = meshLent counts adjacency geometry heads places facing bordering in
@@ -376,11 +370,9 @@ pub(crate) fn carry_out(
     outflow: &mut [f64],
     metrics: &mut [f64],
 ) -> Answer
-    requires lendable {
-        let m = meshNow counts adjacency geometry heads places facing bordering in
+    requires lendable { let m = meshNow counts adjacency geometry heads places facing bordering in
         ⌜ Lendable (alikeNow m codes values records velocities pressures responses walls corrections) ⌝ }
-    requires fit {
-        let old = outputsNow starts equations weights inverses gradient predicted coefficients flux outflow metrics in
+    requires fit { let old = outputsNow starts equations weights inverses gradient predicted coefficients flux outflow metrics in
         ⌜ OutputsFit counts records old ⌝ }
     ensures answer { λ r.
         let m = meshLent counts adjacency geometry heads places facing bordering in

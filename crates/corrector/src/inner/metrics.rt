@@ -2,6 +2,7 @@
 ghost use mathlib.Core.Path.{_≡_};
 ghost use Prim.Native.Nat.{_+_, _*_, _<_, _≤_};
 ghost use lib.ListN.{length};
+ghost use Rattle.mesh.specs.Checks.{largestCount};
 ghost use Rattle.mesh.specs.Pass.{handedOut, firstRefusal};
 ghost use Rattle.numerics.specs.Outflow.{Flows, outflows};
 ghost use Rattle.corrector.specs.Metrics.{squaredSum, rootMeanSquare, divergenceAt, largest, indexIn, measuredBy, metricsOf, metricsAnswer, metricsNumbers};
@@ -27,7 +28,7 @@ fn squared_sum(outflow: &[f64]) -> f64
 }
 
 fn root_mean_square(outflow: &[f64]) -> f64
-    requires { ⌜ length (now outflow) ≤ 65535 ⌝ }
+    requires { ⌜ length (now outflow) ≤ largestCount ⌝ }
     ensures { λ r. ⌜ r ≡ rootMeanSquare (now (outflow .entry)) ⌝ }
 {
     binary64::sqrt(squared_sum(outflow) / outflow.len() as f64)
@@ -68,7 +69,7 @@ fn measure(places: &[f64], outflow: &[f64], rms: f64) -> Metrics
 }
 
 fn metrics_of(places: &[f64], outflow: &[f64]) -> Metrics
-    requires { ⌜ (length (now places) ≡ 4 * length (now outflow)) × (length (now outflow) ≤ 65535) ⌝ }
+    requires { ⌜ (length (now places) ≡ 4 * length (now outflow)) × (length (now outflow) ≤ largestCount) ⌝ }
     ensures { λ r. ⌜ r ≡ metricsOf (now (places .entry)) (now (outflow .entry)) ⌝ }
 {
     let rms = root_mean_square(outflow);
@@ -80,7 +81,7 @@ fn metrics_of(places: &[f64], outflow: &[f64]) -> Metrics
 
 // The metrics of outflows that are there; a refusal clears both.
 pub fn outflow_metrics(places: &[f64], outflow: &mut [f64], metrics: &mut [f64]) -> Answer
-    requires { ⌜ (length (now places) ≡ 4 * length (now outflow)) × (length (now outflow) ≤ 65535) × (length (now metrics) ≡ 2) ⌝ }
+    requires { ⌜ (length (now places) ≡ 4 * length (now outflow)) × (length (now outflow) ≤ largestCount) × (length (now metrics) ≡ 2) ⌝ }
     ensures { λ r. ⌜ r ≡ metricsAnswer (metricsOf (now (places .entry)) (now (outflow .entry))) ⌝ }
     ensures { λ r. ⌜ now (outflow .exit) ≡ handedOut r (length (now (outflow .entry))) (now (outflow .entry)) ⌝ }
     ensures { λ _. ⌜ now (metrics .exit) ≡ metricsNumbers (metricsOf (now (places .entry)) (now (outflow .entry))) ⌝ }
@@ -107,7 +108,7 @@ pub fn continuity_metrics(
     metrics: &mut [f64],
 ) -> Answer
     requires { ⌜ Flows (length (now outflow)) (now adjacency) (now flux) ⌝ }
-    requires { ⌜ (length (now places) ≡ 4 * length (now outflow)) × (length (now outflow) ≤ 65535) × (length (now metrics) ≡ 2) ⌝ }
+    requires { ⌜ (length (now places) ≡ 4 * length (now outflow)) × (length (now outflow) ≤ largestCount) × (length (now metrics) ≡ 2) ⌝ }
     ensures answer { λ r.
         let sums = outflows (length (now (outflow .entry))) (now (adjacency .entry)) (now (flux .entry)) in
         let metric = metricsOf (now (places .entry)) sums in

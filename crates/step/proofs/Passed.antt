@@ -1,16 +1,17 @@
 -- What the checks of the step establish. Assumes nothing.
-use mathlib.Core.Path.{_≡_, refl, sym, _∙_}
-use mathlib.Core.Bool.{_&&_}
+use mathlib.Core.Path.{_≡_, refl, sym, ap, _∙_}
+use mathlib.Core.Bool.{Bool, _&&_}
 use Prim.Native.Nat.{ℕ, _*_}
 use lib.Dec.{eqb, leb}
 use lib.ListN.{length}
 use borrow.Author.Tests.{eqb-true, leb-true}
-use Rattle.mesh.specs.Answers.{orElse, firstOf}
+use Rattle.mesh.specs.Answers.{orElse, shape}
+use Rattle.chain.specs.Search.{everyOf}
 use Rattle.mesh.specs.Checks.{largestCount, sizesOk}
 use Rattle.mesh.specs.Mesh.{meshSized, conditionsSized, topology}
 use Rattle.mesh.specs.declared.Answer.{Answer}
 use Rattle.mesh.specs.declared.Answer.the-variants.{Accepted, Refused}
-use Rattle.mesh.proofs.Facts.{all-accepted, small}
+use Rattle.mesh.proofs.Facts.{all-accepted, shape-first, small}
 use Rattle.mesh.proofs.Facts as facts
 use Rattle.mesh.proofs.Good.{sized, sound}
 use Rattle.chain.proofs.Truth.{and-true, every-at}
@@ -73,6 +74,25 @@ passed d old r c e =
         metrics = eqb-true _ _ (o 6);
       },
     )
+
+-- the checks by what is found of each: of the counts, the mesh, the conditions, the fields and the outputs, then of the shape
+module _ (d : Inputs) (old : Handed) (z m k f o : Bool) (a : Answer) (ez : z ≡ sizesOk (d .mesh .counts)) (em : m ≡ meshSized (d .mesh))
+    (ek : k ≡ conditionsSized (d .mesh .counts .faces) (d .conditions .codes) (d .conditions .values))
+    (ef : f ≡ fieldsSized (d .mesh .counts) (length (d .velocity .values)) (length (d .pressure .values)) (length (d .responses .values)) (length (d .walls .values)) (length (d .correction .values)))
+    (eo : o ≡ outputsSized (d .mesh .counts) (d .records) old) (ea : a ≡ shape (z && leb (d .records) largestCount) (m && k && f && o) (everyOf (stepNumbers d))) where
+  shaped : shape (z && leb (d .records) largestCount) (m && k && f && o) (everyOf (stepNumbers d)) ≡ shape (sizesOk (d .mesh .counts) && leb (d .records) largestCount) (stepSized d old) (everyOf (stepNumbers d))
+  shaped = rw (ez, em, ek, ef, eo)
+
+  found : stepChecks d old ≡ orElse a (topology (d .mesh) (d .conditions .codes))
+  unfolding stepChecks
+  found = shape-first _ _ _ _ ∙ ap (λ (b : Answer). orElse b (topology (d .mesh) (d .conditions .codes))) (sym (ea ∙ shaped))
+
+  pub checked-by : (r : Answer) → a ≡ Accepted → r ≡ topology (d .mesh) (d .conditions .codes) → r ≡ stepChecks d old
+  unfolding orElse
+  checked-by r ok is = is ∙ sym (found ∙ rw ok)
+
+  pub refused-by : (j i : ℕ) → a ≡ Refused j i → Refused j i ≡ stepChecks d old
+  refused-by j i is = refused-first a (topology (d .mesh) (d .conditions .codes)) j i is ∙ sym found
 
 -- the work does not look at mesh numbers
 abbrev numbered : Inputs → Inputs

@@ -1,9 +1,5 @@
 -- `step::check_step` meets its contract: the checks of shape, then those of the mesh.
-use Rattle.step.specs.Call.{stepChecks}
-use Rattle.mesh.specs.Answers.{orElse}
-use Rattle.step.proofs.Passed.{refused-first}
-use mathlib.Core.Path.{_≡_, sym, _∙_}
-use Rattle.mesh.proofs.Facts.{shape-first}
+use Rattle.step.proofs.Passed.{checked-by, refused-by}
 use borrow.Author.Needs.{needs}
 use Rattle.step.proofs.check_step.Statement.{statement}
 use Rattle.step.proofs.check_step.Tie as tie
@@ -57,7 +53,6 @@ enum-known-a : tie.Need-enum-known-a
 enum-known-a c = search needs
 
 returns : tie.Need-returns
-unfolding stepChecks orElse
 returns c =
     let l : tie.After-check-topology = search in
     let e = toldAt l in
@@ -68,10 +63,9 @@ returns c =
     let k = conditionsAt f in
     let m = meshAt k in
     let t = l .check-topology .ensures in
-    rw (shape-first _ _ _ _, ← z .sizes-ok .ensures, ← m .mesh-sized .ensures, ← k .conditions-sized .ensures, ← f .fields-sized .ensures, ← o .outputs-sized .ensures, ← h .shape .ensures, e .enum-told .given .1) t
+    checked-by _ _ _ _ _ _ _ _ (z .sizes-ok .ensures) (m .mesh-sized .ensures) (k .conditions-sized .ensures) (f .fields-sized .ensures) (o .outputs-sized .ensures) (h .shape .ensures) _ (e .enum-told .given .1) t
 
 returns-2 : tie.Need-returns-2
-unfolding stepChecks orElse
 returns-2 c =
     let h : tie.After-shape = search in
     let z = sizesAt h in
@@ -79,7 +73,7 @@ returns-2 c =
     let f = fieldsAt o in
     let k = conditionsAt f in
     let m = meshAt k in
-    rw (shape-first _ _ _ _, ← z .sizes-ok .ensures, ← m .mesh-sized .ensures, ← k .conditions-sized .ensures, ← f .fields-sized .ensures, ← o .outputs-sized .ensures) (refused-first _ _ _ _ (sym (h .shape .ensures) ∙ c .before .a .given .1))
+    refused-by _ _ _ _ _ _ _ _ (z .sizes-ok .ensures) (m .mesh-sized .ensures) (k .conditions-sized .ensures) (f .fields-sized .ensures) (o .outputs-sized .ensures) (h .shape .ensures) _ _ (c .before .a .given .1)
 
 pub check-step-spec : {M : Type 1} → statement M
 check-step-spec =

@@ -32,14 +32,10 @@ listOf h (suc n) = listOf h n ++ (h n ∷ [])
 abbrev pub valuesOf : (ℕ → Outcome) → ℕ → List Float
 valuesOf g n = listOf (λ i. valueOf (g i)) n
 
--- an accepted call hands out its list, and one that arithmetic refuses +0.0, or 0, throughout
+-- an accepted call hands out its list, and one that arithmetic refuses +0.0 throughout
 unfoldable pub handedOut : Answer → ℕ → List Float → List Float
 handedOut Accepted n l = l
 handedOut (Refused k i) n l = replicate n zero64
-
-unfoldable pub handedOutNumbers : Answer → ℕ → List ℕ → List ℕ
-handedOutNumbers Accepted n l = l
-handedOutNumbers (Refused k i) n l = replicate n 0
 
 -- the first where the answer refuses, the second where it accepts
 unfoldable pub ifRefused : {A : Type 0} → Answer → A → A → A

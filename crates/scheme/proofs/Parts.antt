@@ -16,7 +16,7 @@ use Rattle.mesh.proofs.Values.{length-listOf, getD-listOf}
 use Rattle.numerics.specs.Slices.{Slices}
 use Rattle.numerics.specs.Gradient.{Sloped, gradients}
 use Rattle.stencil.specs.Lent.{Lent, lentOf, Buildable}
-use Rattle.numerics.specs.Outflow.{Flows, facesOf, outflows}
+use Rattle.numerics.specs.Outflow.{Flows, outflows}
 use Rattle.numerics.proofs.Scatter.{length-scatter}
 use Rattle.binary64.specs.Numbers.{zero64}
 use Rattle.stencil.specs.Stencil.{stencilAnswer, stencilSlices}
@@ -92,7 +92,7 @@ module _ (d : Inputs) (ready : Lendable d) where
 
   pub outflows-size : length (outflowsOf d) ≡ cells
   unfolding outflows
-  outflows-size = length-scatter (facesOf (d .mesh .adjacency) (fluxesOf d)) (replicate cells zero64) (length (fluxesOf d)) ∙ length-replicate cells zero64
+  outflows-size = length-scatter _ (replicate cells zero64) _ ∙ length-replicate cells zero64
 
   -- a one-cell face's predicted flux is its wall flux
   pub wall-kept : (f : ℕ) → f < faces → neighbourAt (d .mesh .adjacency) f ≡ 0 → getD (predictedOf d) f nan ≡ getD (d .walls .values) f nan

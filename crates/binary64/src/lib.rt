@@ -1,5 +1,7 @@
 // Numbers of IEEE 754 binary64: tests, magnitudes, the larger of two, and the correctly rounded
 // square root. The exact account of what a sum loses is in specs/ and proofs/.
+#![tactic(auto)]
+
 ghost use Rattle.std.specs.Prelude.{◌≡◌};
 ghost use Rattle.binary64.specs.Numbers.{is_finite, is_usable, is_far, magnitude, larger};
 ghost use Rattle.binary64.specs.Root.{root};

@@ -1,5 +1,7 @@
 // The library's functions under C names, for C and Rust programs to link. A function that can refuse
 // returns the number of the refusal, 0 where it accepts, and leaves the index in `index`.
+#![tactic(auto)]
+
 ghost use Rattle.std.specs.Prelude.{◌≡◌};
 ghost use Rattle.binary64.specs.Root.{root};
 ghost use Rattle.mesh.specs.Answers.{number_of, index_of};

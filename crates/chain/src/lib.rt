@@ -1,4 +1,6 @@
 // Records of two whole numbers in flat slices, and chains of them: check 5.
+#![tactic(auto)]
+
 ghost use Rattle.std.specs.Prelude.{◌≡◌, get_or};
 ghost use Rattle.chain.specs.Pairs.{first_at, second_at};
 ghost use Rattle.chain.specs.Search.{lower};
@@ -11,7 +13,7 @@ pub mod inner;
 mod walk;
 
 // What a search finds.
-#[derive(Drop)]
+#[derive(Clone, Copy)]
 pub enum Found {
     Nothing,
     At(usize),

@@ -7,7 +7,7 @@ use crate::{Found, first_at, number_at, second_at};
 
 // How the first records of the cells' chains stand in a slice: a number a cell, or the first or the
 // second of two.
-#[derive(Drop)]
+#[derive(Clone, Copy)]
 pub enum Form {
     Single,
     First,
@@ -15,7 +15,7 @@ pub enum Form {
 }
 
 // What stands behind a record.
-#[derive(Drop)]
+#[derive(Clone, Copy)]
 pub enum Step {
     Broken,
     Next(usize),

@@ -1,6 +1,8 @@
 // The arithmetic of one face and of one cell in the coupling of pressure and velocity, in the Rust's
 // order of float operations. A face is given by its two sides: its owner's and the other, which is
 // that of its neighbour or, at a linked face, of the peer's owner.
+#![tactic(auto)]
+
 ghost use Rattle.std.specs.Prelude.{◌≡◌};
 ghost use Rattle.coupling.specs.Cell.{inverse_diagonal, corrected_velocity, stands, divergence};
 ghost use Rattle.coupling.specs.Face.{distances, face_response, projected, positive, internal_coefficient, linked_coefficient, fixed_coefficient, mixed, predicted, predicted_flux, corrected_flux};
@@ -9,7 +11,7 @@ use mesh::Outcome;
 use vector::Vec3;
 
 // A face's centre and area vector, and the centres on its two sides.
-#[derive(Drop)]
+#[derive(Clone, Copy)]
 pub struct Span {
     pub center: Vec3,
     pub area: Vec3,
@@ -18,14 +20,14 @@ pub struct Span {
 }
 
 // A number of each side: their distances from the face's centre, or their responses.
-#[derive(Drop)]
+#[derive(Clone, Copy)]
 pub struct Pair {
     pub owner: f64,
     pub other: f64,
 }
 
 // What a side brings to the predicted flux.
-#[derive(Drop)]
+#[derive(Clone, Copy)]
 pub struct Side {
     pub velocity: Vec3,
     pub gradient: Vec3,

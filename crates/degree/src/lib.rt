@@ -1,4 +1,6 @@
 // How many faces a cell has: the faces that name it, and the records of its chain of faces. Check 14.
+#![tactic(auto)]
+
 ghost use Rattle.std.specs.Prelude.{◌≡◌};
 ghost use Rattle.degree.specs.Degree.{lowest_long, searched};
 
@@ -13,7 +15,7 @@ pub const MOST_FACES: usize = 26;
 
 // What the checks 5 and 14 find of the chains of faces: the lowest cell whose chain is broken, and the lowest
 // whose chain has more than 26 records.
-#[derive(Drop)]
+#[derive(Clone, Copy)]
 pub struct Facing {
     pub broken: Found,
     pub long: Found,

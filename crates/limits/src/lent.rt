@@ -24,7 +24,7 @@ pub const VALUES: usize = 7;
 // What is lent: the counts, the mesh number of the conditions, how much of each slice is lent, and
 // the slices of whole numbers. Those of floats are zeros. An array has room for a number more than
 // any mesh here needs.
-#[derive(Drop)]
+#[derive(Clone, Copy)]
 pub struct Lent {
     counts: Counts,
     number: u64,

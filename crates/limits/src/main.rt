@@ -1,6 +1,8 @@
 // The refusals 1 to 6 of `mesh::check` at their limits. Writes a line for each case: its name, a colon, and
 // the answer. The lines in the crate's file `stdout` were written by hand from documents 01 and 02; none was
 // taken from a run. A small case starts from an accepted mesh, and changes only what its name says.
+#![tactic(auto)]
+
 ghost use Rattle.std.specs.Prelude.{◌≡◌, take};
 
 use lent::Lent;

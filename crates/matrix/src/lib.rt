@@ -1,11 +1,13 @@
 // The normal matrix of a least-squares stencil and its inverse.
+#![tactic(auto)]
+
 ghost use Rattle.std.specs.Prelude.{◌≡◌};
 ghost use Rattle.matrix.specs.Normal.{outer, all_finite, inverse2, inverse3, pivot, solve, inverse, columns, factored};
 
 use vector::Vec3;
 
 // The nine numbers of a matrix, row by row.
-#[derive(Drop)]
+#[derive(Clone, Copy)]
 pub struct Normal {
     pub xx: f64,
     pub xy: f64,
@@ -19,7 +21,7 @@ pub struct Normal {
 }
 
 // The lower triangle of a factored matrix.
-#[derive(Drop)]
+#[derive(Clone, Copy)]
 struct Lower {
     pub a: f64,
     pub b: f64,
@@ -29,13 +31,13 @@ struct Lower {
     pub f: f64,
 }
 
-#[derive(Drop)]
+#[derive(Clone, Copy)]
 enum Pivot {
     Unfit,
     Root(f64),
 }
 
-#[derive(Drop)]
+#[derive(Clone, Copy)]
 pub enum Inversion {
     Singular,
     Inverse(Normal),

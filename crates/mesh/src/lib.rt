@@ -1,5 +1,7 @@
 // What is lent: the records of a mesh and of its conditions, the checks 1 to 6 of what is lent, and the
 // clearing of outputs. Records stand in flat slices; `inner` reads them by value.
+#![tactic(auto)]
+
 ghost use Rattle.std.specs.Prelude.{◌≡◌, ◌*◌, eqb, length, replicate};
 ghost use Rattle.binary64.specs.Numbers.{zero64};
 ghost use Rattle.mesh.specs.Answers.{at, or_else, shape};
@@ -20,7 +22,7 @@ pub const LARGEST_COUNT: usize = 65535;
 // A mesh's number, its dimension, and how many cells, faces, face records and neighbour records it
 // has.
 #[repr(C)]
-#[derive(Drop)]
+#[derive(Clone, Copy)]
 pub struct Counts {
     pub mesh: u64,
     pub dimension: usize,
@@ -31,7 +33,7 @@ pub struct Counts {
 }
 
 // A face. The neighbour is a cell + 1, or 0 where there is none; `area` is the area vector.
-#[derive(Drop)]
+#[derive(Clone, Copy)]
 pub struct Face {
     pub owner: usize,
     pub neighbour: usize,
@@ -40,14 +42,14 @@ pub struct Face {
     pub normal: Vec3,
 }
 
-#[derive(Drop)]
+#[derive(Clone, Copy)]
 pub struct Cell {
     pub center: Vec3,
     pub volume: f64,
 }
 
 // What holds at a one-cell face.
-#[derive(Drop)]
+#[derive(Clone, Copy)]
 pub enum Condition {
     Absent,
     Fixed(f64),
@@ -55,21 +57,21 @@ pub enum Condition {
 }
 
 // A face's link: the peer is a face + 1, or 0 where there is no link.
-#[derive(Drop)]
+#[derive(Clone, Copy)]
 pub struct Link {
     pub peer: usize,
     pub translation: Vec3,
 }
 
 // An entry's answer: a refusal has a number and an index, docs/REFUSALS.md.
-#[derive(Drop)]
+#[derive(Clone, Copy)]
 pub enum Answer {
     Accepted,
     Refused(u64, usize),
 }
 
 // What a face or a cell is given: a number, or the number of a refusal.
-#[derive(Drop)]
+#[derive(Clone, Copy)]
 pub enum Outcome {
     Value(f64),
     Bad(u64),

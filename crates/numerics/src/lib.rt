@@ -1,4 +1,6 @@
 // Operators on a mesh: the gradient from a lent stencil, and the outflow of each cell.
+#![tactic(auto)]
+
 ghost use Rattle.std.specs.Prelude.{◌≡◌};
 ghost use Rattle.numerics.specs.Slices.{lengths, stencil_sized, slices_before};
 ghost use Rattle.numerics.specs.Gradient.{lent_checks, GradientCall};

@@ -8,7 +8,7 @@ use mesh::Counts;
 
 // The mesh numbers of conditions, coefficients, correction and flux; and the slices. The flux is lent with
 // its first `length` numbers.
-#[derive(Drop)]
+#[derive(Clone, Copy)]
 pub struct Case {
     pub counts: Counts,
     pub number: u64,

@@ -2,6 +2,8 @@
 // each case: the entry, the case's name, a colon, the answer, and what the slice holds after the call,
 // refused or not. The lines in the crate's file `stdout` were made by `oracle oneslice` from the Rust; none
 // was taken from a run.
+#![tactic(auto)]
+
 use case::Case;
 use mesh::Answer;
 use pattern::print;

@@ -1,5 +1,7 @@
 // Passes that a face or a cell may refuse: what a pass hands out, and two sequences of refusals in
 // one pass.
+#![tactic(auto)]
+
 ghost use Rattle.std.specs.Prelude.{◌≡◌, length, set};
 ghost use Rattle.mesh.specs.Pass.{handed_out};
 ghost use Rattle.passes.specs.Staged.{late_of, staged, is_early, is_late, early_number, late_after};
@@ -10,7 +12,7 @@ use mesh::{Answer, Outcome};
 pub mod inner;
 
 // What a face comes to: a number, a refusal of the first sequence, or one of the second.
-#[derive(Drop)]
+#[derive(Clone, Copy)]
 pub enum Stage {
     Kept(f64),
     Early(u64),

@@ -1,5 +1,7 @@
 // Bit patterns of f64s, NaNs' among them, of which `f64::from_bits` and `f64::to_bits` take none; and
 // patterns as text, read and written.
+#![tactic(auto)]
+
 ghost use Rattle.std.specs.Prelude.{◌≡◌, true, ◌↔◌};
 ghost use Rattle.std.specs.Float.{binary64};
 ghost use Rattle.std.specs.Float.Ieee.{of_bits, to_bits, nan_bits};
@@ -9,7 +11,7 @@ pub mod inner;
 pub mod print;
 
 // The number that 16 bytes spell in hex digits, if they do.
-#[derive(Drop)]
+#[derive(Clone, Copy)]
 pub enum Hex {
     Number(u64),
     Other,

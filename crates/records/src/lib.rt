@@ -1,4 +1,6 @@
 // Gradients handed out as a lent slice of records: a thin function over the number form of `numerics`.
+#![tactic(auto)]
+
 ghost use Rattle.std.specs.Prelude.{◌≡◌, ◌*◌};
 ghost use Rattle.mesh.specs.Pass.{if_refused};
 ghost use Rattle.numerics.specs.Slices.{slices_before};

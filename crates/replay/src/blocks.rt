@@ -3,7 +3,7 @@ use crate::words::{after, skip, word};
 use mesh::Counts;
 
 // A mesh, with the places of its slices and of what follows it.
-#[derive(Drop)]
+#[derive(Clone, Copy)]
 pub struct Mesh {
     pub counts: Counts,
     pub adjacency: usize,
@@ -15,7 +15,7 @@ pub struct Mesh {
     pub end: usize,
 }
 
-#[derive(Drop)]
+#[derive(Clone, Copy)]
 pub struct Conditions {
     pub number: u64,
     pub codes: usize,

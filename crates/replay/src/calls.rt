@@ -11,7 +11,7 @@ mod of_records;
 mod of_simple;
 mod of_step;
 
-#[derive(Drop)]
+#[derive(Clone, Copy)]
 pub enum Outcome {
     Agrees,
     Differs,
@@ -19,7 +19,7 @@ pub enum Outcome {
 }
 
 // A call: its kind, what it is made on, and the place of its words.
-#[derive(Drop)]
+#[derive(Clone, Copy)]
 pub struct Call {
     pub kind: usize,
     pub mesh: Mesh,

@@ -3,7 +3,7 @@
 use crate::words::{after, skip, word};
 
 // A field, marked * in the layout: the number of its mesh, and the place of its slice.
-#[derive(Drop)]
+#[derive(Clone, Copy)]
 pub struct Field {
     pub number: u64,
     pub values: usize,
@@ -11,7 +11,7 @@ pub struct Field {
 
 // A stencil: how many records it has, the number of its mesh, and the places of its slices and of
 // the fields that follow it.
-#[derive(Drop)]
+#[derive(Clone, Copy)]
 pub struct Stencil {
     pub records: usize,
     pub number: u64,

@@ -2,6 +2,8 @@
 // it and how many differ. The list is what `oracle list` makes; `oracle/README.md` gives its layout. The
 // calls are those of the entries of `numerics`, `simple` and `step`, and the roots are taken by
 // `binary64::sqrt`.
+#![tactic(auto)]
+
 use crate::tally::PLACES;
 use libc::{STDIN_FILENO, STDOUT_FILENO};
 

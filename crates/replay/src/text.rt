@@ -3,7 +3,7 @@ use crate::{NOWHERE, WORDS};
 use pattern::Hex;
 
 // What a line holds, its newline left out.
-#[derive(Drop)]
+#[derive(Clone, Copy)]
 enum Line {
     Word(u64),
     Comment,
@@ -12,7 +12,7 @@ enum Line {
 
 // How far the text is read: the place of the next line, how many words were read, and whether no
 // line was broken.
-#[derive(Drop)]
+#[derive(Clone, Copy)]
 struct Progress {
     at: usize,
     words: usize,

@@ -8,7 +8,7 @@ use mesh::Answer;
 // The place of the lengths of the outputs; the answer's number; what the outputs hold, 0 the numbers
 // that follow, 1 what they held before the call, 2 zeros; the answer's index; the place of the first
 // output's numbers.
-#[derive(Drop)]
+#[derive(Clone, Copy)]
 pub struct Verdict {
     lengths: usize,
     answer: u64,

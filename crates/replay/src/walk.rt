@@ -6,7 +6,7 @@ use crate::words::{skip, word};
 use crate::{NOWHERE, calls, print_broken};
 
 // The place of the next block and those of the last mesh and conditions, and whether to go on.
-#[derive(Drop)]
+#[derive(Clone, Copy)]
 struct Walk {
     at: usize,
     mesh: usize,

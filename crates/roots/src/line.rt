@@ -4,7 +4,7 @@ ghost use Rattle.roots.specs.Text.{Holds};
 use pattern::Hex;
 
 // What a line holds: the patterns of a value and of its root. End is past the last line.
-#[derive(Drop)]
+#[derive(Clone, Copy)]
 pub enum Line {
     Pair(u64, u64),
     Broken,

@@ -1,6 +1,8 @@
 // Checks `binary64::sqrt` against a list of roots on standard input, and writes how many agreed and
 // the first that does not. A line of the list is a value's bit pattern, a space, its root's bit
 // pattern and a newline, each pattern of 16 lower-case hex digits.
+#![tactic(auto)]
+
 ghost use Rattle.std.specs.Prelude.{◌+◌, ◌^◌, ◌≤◌, ◌<◌};
 
 use libc::{STDIN_FILENO, STDOUT_FILENO};
@@ -9,7 +11,7 @@ use line::Line;
 mod line;
 
 // The lines checked so far, and whether to read on.
-#[derive(Drop)]
+#[derive(Clone, Copy)]
 struct Tally {
     agreed: u64,
     differ: u64,

@@ -1,4 +1,6 @@
 // The sentence of a refusal, for a learner to read.
+#![tactic(auto)]
+
 ghost use Rattle.std.specs.Prelude.{◌≡◌, [], ◌∷◌, ◌++◌, ◌+◌, ◌≤◌, ◌<◌, length, take, drop};
 ghost use Rattle.sentence.specs.Sentence.{decimal, SentenceCall};
 ghost use Rattle.sentence.specs.Rows.{checks, groups, opened, NoneOf};

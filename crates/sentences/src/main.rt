@@ -2,6 +2,8 @@
 // index, the slice, the bytes that the answer says are needed, and between bars the slice as the call left
 // it, which was all `#` before. The lines in the crate's file `stdout` were written from the phrases of
 // document 02; none was taken from a run.
+#![tactic(auto)]
+
 const ROOM: usize = 44;
 
 // A call, and its line.

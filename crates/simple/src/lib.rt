@@ -1,6 +1,8 @@
 // Coupling of pressure and velocity: the response of the momentum equation, the coefficients of the
 // faces, the predicted and the corrected flux, the corrected velocity and the metrics of continuity.
 // A number that stands before a slice is the mesh number of that slice.
+#![tactic(auto)]
+
 ghost use Rattle.std.specs.Prelude.{◌≡◌, ◌≤◌};
 ghost use Rattle.mesh.specs.Answers.{at, or_else};
 ghost use Rattle.chain.specs.Chains.{lowest_broken};

@@ -1,4 +1,6 @@
 // The least-squares stencil: the equations of every cell and the inverse of its normal matrix.
+#![tactic(auto)]
+
 ghost use Rattle.std.specs.Prelude.{◌≡◌};
 ghost use Rattle.mesh.specs.Lent.{mesh_lent, conditions_lent};
 ghost use Rattle.numerics.specs.Slices.{lengths, slices_before, slices_after};

@@ -1,5 +1,7 @@
 // The coupling step: stencil, predicted flux, coefficients, correction, outflow and metrics in one
 // call. A number that stands before a slice is the mesh number of that slice.
+#![tactic(auto)]
+
 ghost use Rattle.std.specs.Prelude.{◌≡◌};
 ghost use Rattle.mesh.specs.Lent.{mesh_lent, conditions_lent};
 ghost use Rattle.scheme.specs.Demand.{Demanded};

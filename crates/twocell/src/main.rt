@@ -1,6 +1,8 @@
 // Prints the two-cell sheet of document 01: the corrected flux of each face, and the outflow of each
 // cell. Face 0 joins cells 0 and 1, and faces 1 and 2 are zero-gradient faces of cells 0 and 1. The
 // expected output, the crate's file `stdout`, is document 01's.
+#![tactic(auto)]
+
 use mesh::{Answer, Counts};
 use pattern::print;
 

@@ -1,11 +1,13 @@
 // Vectors of three floats, in the Rust's order of float operations, and slices of them.
+#![tactic(auto)]
+
 ghost use Rattle.std.specs.Prelude.{◌≡◌};
 ghost use Rattle.vector.specs.Vector.{dot, greater, longest, norm, norm_squared, sum, difference, scaled, quotient};
 
 pub mod inner;
 
 // A record of three floats.
-#[derive(Drop)]
+#[derive(Clone, Copy)]
 pub struct Vec3 {
     pub x: f64,
     pub y: f64,

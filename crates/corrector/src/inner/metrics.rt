@@ -8,7 +8,7 @@ ghost use Rattle.corrector.specs.Metrics.{squared_sum, root_mean_square, diverge
 use mesh::{Answer, Outcome};
 
 // The two metrics, or the number and the index of a refusal.
-#[derive(Drop)]
+#[derive(Clone, Copy)]
 pub enum Metrics {
     Measured(f64, f64),
     Unmeasured(u64, usize),

@@ -7,7 +7,7 @@ use mesh::Counts;
 
 // The counts, the room for equation records, the length of each slice, lent or handed out, the mesh
 // number beside it, and the numbers of the lent slices one after another.
-#[derive(Drop)]
+#[derive(Clone, Copy)]
 pub struct Case {
     pub counts: Counts,
     pub records: usize,

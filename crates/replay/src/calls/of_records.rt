@@ -13,7 +13,7 @@ use vector::Vec3;
 const CELLS: usize = 341;
 
 // An answer, and the records that were lent.
-#[derive(Drop)]
+#[derive(Clone, Copy)]
 struct Handed {
     answer: Answer,
     gradients: [Vec3; CELLS],

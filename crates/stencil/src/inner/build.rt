@@ -15,7 +15,7 @@ use vector::Vec3;
 
 // One equation: where the other value comes from (0 zero normal derivative, 1 the fixed value, cell + 2 a
 // cell), the coefficient of the difference, and the fixed value.
-#[derive(Drop)]
+#[derive(Clone, Copy)]
 pub struct Equation {
     pub source: usize,
     pub coefficient: Vec3,
@@ -24,7 +24,7 @@ pub struct Equation {
 
 // What a face gives the stencil of a cell: a closing normal, nothing for want of a condition, or a
 // difference from a source, at an offset, with the fixed value.
-#[derive(Drop)]
+#[derive(Clone, Copy)]
 pub enum Offer {
     Closing,
     Missing,
@@ -32,28 +32,28 @@ pub enum Offer {
 }
 
 // Records used so far, and the normal matrix of the cell under way.
-#[derive(Drop)]
+#[derive(Clone, Copy)]
 pub struct Progress {
     pub used: usize,
     pub normal: Normal,
 }
 
 // What a step comes to: a refusal, or the progress that it goes on with.
-#[derive(Drop)]
+#[derive(Clone, Copy)]
 pub enum Stage {
     Halted(u64, usize),
     Going(Progress),
 }
 
 // Records used so far, and the inverse of the normal matrix of a finished cell.
-#[derive(Drop)]
+#[derive(Clone, Copy)]
 pub struct Solution {
     pub used: usize,
     pub inverse: Normal,
 }
 
 // What a cell comes to.
-#[derive(Drop)]
+#[derive(Clone, Copy)]
 pub enum Finish {
     Failed(u64, usize),
     Done(Solution),

@@ -1,0 +1,15 @@
+use mathlib.Core.Path.{◌≡◌, sym, ◌∙◌}
+use mathlib.Core.Bool.{true, false≢true}
+use Prim.Native.Nat.{ℕ, ◌-◌, ◌/◌, ◌<◌}
+use native.Mathlib.Omega.{arith}
+use lib.ListN.{length}
+use Rattle.chain.specs.Chains.{leads_on}
+use Rattle.chain.proofs.Search.{below_none, below_more}
+use borrow.Author.Tests.{not-false}
+use Rattle.chain.proofs.walk.all_lead_on.Given as goal
+
+abbrev pub invariant-loop-i : goal.invariant-loop-i
+invariant-loop-i l = ((j : ℕ) → j < l.i → leads_on l.limit l.records j ≡ true) × (l.i < l.count)
+
+abbrev pub decreases-loop-i : goal.decreases-loop-i
+decreases-loop-i l = l.count - l.i

@@ -12,6 +12,7 @@ use Rattle.chain.proofs.Search.{Searched, start, more, found, nothing}
 use Rattle.chain.proofs.Chains.{ended, no_end, breaks, goes_on}
 use borrow.Author.Rules.{rules}
 use Rattle.chain.proofs.walk.lowest_walked.Goals as goal
+use Rattle.chain.proofs.walk.lowest_walked.Goals.{else-cells-test, then-cells-test+then-loop-r-test+then-left-eq0, then-cells-test+then-loop-r-test+else-left-eq0+in-Broken}
 
 pub cells-init : goal.cells-init
 cells-init c = start ((broken_cell c.args.limit c.args.records.now c.args.form c.args.heads.now)) c.cell_count-cells.result
@@ -49,3 +50,17 @@ cells-preserved c =
 pub returns-else-cell-cells : goal.returns-else-cell-cells
 returns-else-cell-cells c =
     rw (← c.cell_count-cells.ensures) (sym (nothing ((broken_cell c.args.limit c.args.records.now c.args.form c.args.heads.now)) c.cell_count-cells.result c.cells.cell c.cells.invariant c.if-cell-cells.false))
+
+pub returns-then-cell-cells : goal.returns-then-cell-cells
+unfolding broken_cell
+returns-then-cell-cells c =
+    let cell = c.cells.cell in
+    let bad = broken_cell c.args.limit c.args.records.now c.args.form c.args.heads.now in
+    let n = length c.args.records.now / 2 in
+    let at : bad cell ≡ true → At cell ≡ lowest_where bad (cell_count c.args.form c.args.heads.now) = λ e.
+    rw (← c.cell_count-cells.ensures) (sym (found bad c.cell_count-cells.result cell c.cells.invariant c.if-cell-cells.true e)) in
+    elim c.cells-test.branch [
+      | else-cells-test w ↦ absurd (omega (arith, w.cells-test.false, c.if-cell-cells.true))
+      | then-cells-test+then-loop-r-test+then-left-eq0 w ↦ at (ap not (sym w.loop-r.invariant ∙ no_end c.args.records.now n c.args.limit w.loop-r.left w.loop-r.r w.if-left-eq0.true w.loop-r-test.true))
+      | then-cells-test+then-loop-r-test+else-left-eq0+in-Broken w ↦ at (ap not (sym w.loop-r.invariant ∙ breaks c.args.records.now n c.args.limit w.loop-r.left w.loop-r.r w.loop-r-test.true (sym w.step_at-s.ensures ∙ w.in-Broken.is)))
+    ]

@@ -1,0 +1,11 @@
+use mathlib.Core.Path.{◌≡◌, refl}
+use native.Mathlib.Omega.{arith}
+use lib.ListN.{length, length-set}
+use Rattle.sentence.proofs.Place.{Spelled, begun, spelled_more, spelled_all}
+use Rattle.sentence.proofs.put_decimal.Given as goal
+
+abbrev pub invariant-loop-place : goal.invariant-loop-place
+invariant-loop-place l = Spelled l.initial.out l.at l.end l.n l.rest l.place l.out × (length l.out ≡ length l.initial.out)
+
+abbrev pub decreases-loop-place : goal.decreases-loop-place
+decreases-loop-place l = l.place

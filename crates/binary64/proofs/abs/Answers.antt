@@ -50,14 +50,13 @@ above_zero (fin true m e) h k =
     none : (a b : ℕ) → a + b ≤ 0 → a ≡ 0
     none a b l = omega arith
 
-held : (c : goal.Start) → T (fits binary64 c.args.x)
-held c = subst T (sym c.well-formed.0.1) tt
-
 pub returns-then-x : goal.returns-then-x
 returns-then-x c = below-zero c.args.x c.if-x.true
 
 pub returns-then-x-2 : goal.returns-then-x-2
-returns-then-x-2 c = at_zero c.args.x (held c.before.before) c.if-x-2.true
+returns-then-x-2 c =
+    let held : T (fits binary64 c.args.x) = subst T (sym c.well_formed.0.1) tt in
+    at_zero c.args.x held c.if-x-2.true
 
 pub returns : goal.returns
 returns c = above_zero c.args.x c.if-x.false c.if-x-2.false

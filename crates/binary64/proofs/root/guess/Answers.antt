@@ -10,6 +10,7 @@ float_from_bits-half c = no_nan_bits _ (omega arith)
 
 pub returns-then-g : goal.returns-then-g
 returns-then-g c = search rules
+
 -- CLAUSES fact_1 fact_2
 
 pub float_to_bits-result : goal.float_to_bits-result
@@ -17,4 +18,5 @@ float_to_bits-result c = equal_no_nan _ c.if-g.false
 
 pub returns : goal.returns
 returns c = search rules
+
 -- CLAUSES fact_1 fact_2

@@ -6,6 +6,11 @@ use Rattle.binary64.proofs.root.Settled.{Tested}
 use Rattle.binary64.proofs.root.Placed.{start_most, tested_number, root_bits}
 use Rattle.binary64.proofs.root.quick.Goals as goal
 
+pub start-near-requires : goal.start-near-requires
+start-near-requires c = search rules
+
+-- CLAUSES fact_1 fact_2
+
 pub float_from_bits-s : goal.float_from_bits-s
 float_from_bits-s c = no_nan_bits _ (start_most _ c.start-near.ensures)
 

@@ -32,12 +32,12 @@ only_nan nan e = refl
 only_nan (inf s) e = absurd (true≢false (sym e))
 only_nan (fin s m k) e = absurd (true≢false (sym e))
 
-is_nan : is_nan nan ≡ true
+nan_is_nan : is_nan nan ≡ true
 unfolding is_nan
-is_nan = refl
+nan_is_nan = refl
 
 pub nan_of_bits : (n : ℕ) → nan_bits binary64 n ≡ true → of_bits binary64 n ≡ nan
 nan_of_bits n e = only_nan (of_bits binary64 n) (sym (nan_bits_is binary64 n) ∙ e)
 
 pub bits_of_nan : (n : ℕ) → nan ≡ of_bits binary64 n → nan_bits binary64 n ≡ true
-bits_of_nan n e = nan_bits_is binary64 n ∙ ap is_nan (sym e) ∙ is_nan
+bits_of_nan n e = nan_bits_is binary64 n ∙ ap is_nan (sym e) ∙ nan_is_nan

@@ -223,9 +223,11 @@ usable_of (fin false (suc m) e) a p v =
 
 not_left : (p q : Bool) → T (not (p || q)) → T (not p)
 not_left false q t = tt
+not_left true q t = elim t [ ]
 
 not_right : (p q : Bool) → T (not (p || q)) → T (not q)
 not_right false q t = t
+not_right true q t = elim t [ ]
 
 no_negative : (m : ℕ) (e : ℤ) → T (is_usable (fin true m e)) → ⊥
 unfolding le lt eq of_bits

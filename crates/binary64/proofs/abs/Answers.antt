@@ -1,11 +1,9 @@
--- `binary64::abs` meets its contract: by cases on the float. Assumes nothing.
 use Rattle.std.proofs.Common.{◌≡◌, ℕ, ◌+◌, ◌*◌, ◌<◌, ◌≤◌, Bool, true, false, ◌&&◌, T, eqb, ltb, ℤ, pos, sym, refl, ap, ◌∙◌, subst, ap₂, true≢false, arith, ltb-false, ltb-true, eq-eqb, eqb-true}
 use lib.Ieee.{Float, nan, inf, fin, binary64, up, down, fits, of_bits, lt, eq, neg}
 use lib.Ieee.Fits.{up_pos, down_pos}
 use Rattle.binary64.specs.Numbers.{zero64, magnitude}
 use Rattle.binary64.proofs.Sign.{no_factor, zero_is}
-use Rattle.binary64.proofs.abs.Statement.{statement}
-use Rattle.binary64.proofs.abs.Tie as tie
+use Rattle.binary64.proofs.abs.Goals as goal
 
 below-zero : (x : Float) → lt x zero64 ≡ true → neg x ≡ magnitude x
 unfolding lt neg magnitude of_bits
@@ -52,17 +50,13 @@ above_zero (fin true m e) h k =
     none : (a b : ℕ) → a + b ≤ 0 → a ≡ 0
     none a b l = omega arith
 
-held : (c : tie.Start) → T (fits binary64 c.args.x)
-held c = subst T (sym c.well-formed.0.1) tt
+pub returns-then-x : goal.returns-then-x
+returns-then-x c = below-zero c.args.x c.if-x.true
 
-returns : tie.Need-returns
-returns c = below-zero c.before.args.x c.if1.true
+pub returns-then-x-2 : goal.returns-then-x-2
+returns-then-x-2 c =
+    let held : T (fits binary64 c.args.x) = subst T (sym c.well_formed.0.1) tt in
+    at_zero c.args.x held c.if-x-2.true
 
-returns-2 : tie.Need-returns-2
-returns-2 c = at_zero c.before.before.args.x (held c.before.before) c.if2.true
-
-returns-3 : tie.Need-returns-3
-returns-3 c = above_zero c.before.before.args.x c.before.if1.false c.if2.false
-
-pub abs_spec : {M : Type 1} → statement M
-abs_spec = tie.close (tie.spec returns returns-2 returns-3)
+pub returns : goal.returns
+returns c = above_zero c.args.x c.if-x.false c.if-x-2.false

@@ -1,10 +1,8 @@
--- `binary64::finite` meets its contract: by cases on the float.
 use Rattle.std.proofs.Common.{◌≡◌, true, false, refl}
 use lib.Ieee.{Float, nan, inf, fin}
 use Rattle.binary64.specs.Numbers.{is_finite}
-use Rattle.binary64.proofs.finite.Statement.{statement}
 use lib.Ieee as Ieee
-use Rattle.binary64.proofs.finite.Tie as tie
+use Rattle.binary64.proofs.finite.Goals as goal
 
 below : (x : Float) → Ieee.lt x (inf false) ≡ true → Ieee.lt (inf true) x ≡ is_finite x
 unfolding Ieee.lt
@@ -20,13 +18,10 @@ above (inf true) h = cc
 above (inf false) h = refl
 above (fin s m e) h = cc
 
-returns : tie.Need-returns
+pub returns-then-x-top : goal.returns-then-x-top
 unfolding Ieee.div Ieee.neg Ieee.of_bits
-returns c = below c.before.args.x c.if1.true
+returns-then-x-top c = below c.args.x c.if-x-top.true
 
-returns-2 : tie.Need-returns-2
+pub returns-else-x-top : goal.returns-else-x-top
 unfolding Ieee.div Ieee.of_bits
-returns-2 c = above c.before.args.x c.if1.false
-
-pub finite_spec : {M : Type 1} → statement M
-finite_spec = tie.close (tie.spec returns returns-2)
+returns-else-x-top c = above c.args.x c.if-x-top.false

@@ -1,0 +1,6 @@
+use borrow.Author.Rules.{rules}
+use Rattle.vector.proofs.Vec3.norm.Goals as goal
+
+pub returns : goal.returns
+returns c =
+    rw (← c.dot.ensures) c.sqrt_guessed.ensures

@@ -1,9 +1,9 @@
 -- Hex digits as text. Assumes nothing.
 use mathlib.Core.Path.{◌≡◌, refl, sym, ap, ◌∙◌}
 use mathlib.Core.Bool.{Bool, true, false}
-use mathlib.Core.List.{List, [], ◌∷◌, ◌++◌}
+use mathlib.Core.List.{List, [], ◌∷◌}
 use mathlib.Core.Logic.{⊎_elim}
-use Prim.Native.Nat.{ℕ, zero, suc, ◌+◌, ◌*◌, ◌/◌, ◌%◌, ◌^◌, ◌≤◌, ◌<◌}
+use Prim.Native.Nat.{ℕ, zero, suc, ◌+◌, ◌-◌, ◌*◌, ◌/◌, ◌%◌, ◌^◌, ◌≤◌, ◌<◌}
 use native.Mathlib.Nat.{mod-lt, not-suc-le-zero, eq-or-lt_of_le, le_of_suc-le-suc, lt_of_lt_of_le, pow-suc, pow-le-pow_right}
 use native.Mathlib.Numerals.{add-one}
 use native.Mathlib.Omega.{arith}
@@ -11,8 +11,7 @@ use borrow.Author.Tests.{lt-ltb, le-ltb, ltb-true, ltb-false}
 use lib.Dec.{ltb}
 use lib.ListN.{length, get_or, take, length-append, get_or-append}
 use lib.Seq.{get_or_at, take-suc, get_or-take}
-use Rattle.io.specs.Digits.{hex_digit_ascii, last_digits}
-use Rattle.pattern.specs.Text.{Digit, hex_text}
+use Rattle.pattern.specs.Text.{Digit, hex_text, hex_digit_ascii, last_digits}
 
 pub glyph_low : (d : ℕ) → d < 10 → hex_digit_ascii d ≡ 48 + d
 glyph_low d h = simp (lt-ltb d 10 h)
@@ -31,6 +30,22 @@ module _ (b : ℕ) (low : 48 ≤ b → b ≤ 57 → ⊥) (high : 97 ≤ b → b 
   -- A byte outside both ranges of codes is no digit's.
   pub no_digit : Digit b 16
   no_digit = record { small = omega arith; spelled = λ h. absurd (omega arith); other = λ _ e h q. no_glyph e h q (ltb e 10) refl }
+
+-- What each range of bytes is.
+pub low_digit : (b : ℕ) → 48 ≤ b → b ≤ 57 → Digit b (b - 48)
+low_digit b l h = some_digit b (b - 48) (omega arith) (glyph_low (b - 48) (omega arith) ∙ omega arith)
+
+pub high_digit : (b : ℕ) → 97 ≤ b → b ≤ 102 → Digit b (b - 97 + 10)
+high_digit b l h = some_digit b (b - 97 + 10) (omega arith) (glyph_high (b - 97 + 10) (omega arith) ∙ omega arith)
+
+pub below_digits : (b : ℕ) → b < 48 → Digit b 16
+below_digits b h = no_digit b (omega arith) (omega arith)
+
+pub between_digits : (b : ℕ) → 57 < b → b < 97 → Digit b 16
+between_digits b l h = no_digit b (omega arith) (omega arith)
+
+pub above_digits : (b : ℕ) → 102 < b → Digit b 16
+above_digits b h = no_digit b (omega arith) (omega arith)
 
 pub digits-length : (k n : ℕ) → length (last_digits 16 k n) ≡ k
 digits-length zero n = refl

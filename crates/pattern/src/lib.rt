@@ -9,6 +9,7 @@ ghost use Rattle.pattern.specs.Text.{Digit};
 
 pub mod inner;
 pub mod print;
+pub mod read;
 
 // The number that 16 bytes spell in hex digits, if they do.
 #[derive(Clone, Copy)]
@@ -55,6 +56,7 @@ pub fn bits(x: f64) -> u64
 }
 
 // The value of the hex digit b, or 16 where b is none.
+#[tactic(auto, using(crate::proofs::Digits::low_digit, crate::proofs::Digits::high_digit, crate::proofs::Digits::below_digits, crate::proofs::Digits::between_digits, crate::proofs::Digits::above_digits))]
 pub fn digit(b: u8) -> u64
     ensures { Digit b result }
 {

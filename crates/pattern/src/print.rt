@@ -1,55 +1,53 @@
 // Numbers and refusals as text on standard output.
-use libc::STDOUT_FILENO;
+use std::io;
 
-pub fn text(text: &[u8]) {
-    io::write_all(STDOUT_FILENO, text);
+pub fn text(rt: &impl Print, text: &[u8]) -> io::Result<()> {
+    rt.write_all(text)
 }
 
-pub fn decimal(n: u64) {
-    io::print_decimal(STDOUT_FILENO, n);
+pub fn decimal(rt: &impl Print, n: u64) -> io::Result<()> {
+    print!(rt; "{n}")
 }
 
 // 16 hex digits.
-pub fn word(n: u64) {
-    io::print_hex(STDOUT_FILENO, n, 16);
+pub fn word(rt: &impl Print, n: u64) -> io::Result<()> {
+    print!(rt; "{n:016x}")
 }
 
 // The 16 hex digits of x's pattern.
-pub fn float(x: f64) {
-    word(crate::bits(x));
+pub fn float(rt: &impl Print, x: f64) -> io::Result<()> {
+    word(rt, crate::bits(x))
 }
 
-fn next_word(n: u64) {
-    text(b" ");
-    word(n);
+fn next_word(rt: &impl Print, n: u64) -> io::Result<()> {
+    text(rt, b" ")?;
+    word(rt, n)
 }
 
-fn next_float(x: f64) {
-    text(b" ");
-    float(x);
+fn next_float(rt: &impl Print, x: f64) -> io::Result<()> {
+    text(rt, b" ")?;
+    float(rt, x)
 }
 
 // Each number's 16 hex digits after a space.
-pub fn words(numbers: &[usize]) {
-    let mut i = 0;
-    while i < numbers.len() {
-        next_word(numbers[i] as u64);
-        i += 1;
+pub fn words(rt: &impl Print, numbers: &[usize]) -> io::Result<()> {
+    for n in numbers {
+        next_word(rt, *n as u64)?;
     }
+    Ok(())
 }
 
 // The 16 hex digits of each number's pattern after a space.
-pub fn floats(numbers: &[f64]) {
-    let mut i = 0;
-    while i < numbers.len() {
-        next_float(numbers[i]);
-        i += 1;
+pub fn floats(rt: &impl Print, numbers: &[f64]) -> io::Result<()> {
+    for x in numbers {
+        next_float(rt, *x)?;
     }
+    Ok(())
 }
 
-pub fn refusal(number: u64, index: usize) {
-    text(b"refused ");
-    decimal(number);
-    text(b" at ");
-    decimal(index as u64);
+pub fn refusal(rt: &impl Print, number: u64, index: usize) -> io::Result<()> {
+    text(rt, b"refused ")?;
+    decimal(rt, number)?;
+    text(rt, b" at ")?;
+    decimal(rt, index as u64)
 }

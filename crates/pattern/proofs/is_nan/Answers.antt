@@ -1,0 +1,7 @@
+use mathlib.Core.Path.{sym}
+use lib.Ieee.{binary64}
+use lib.Ieee.Bits.{nan_bits_above}
+use Rattle.pattern.proofs.is_nan.Goals as goal
+
+pub returns : goal.returns
+returns c = sym (nan_bits_above binary64 c.args.bits)

@@ -5,6 +5,7 @@ use case::Case;
 use mesh::Counts;
 use pattern::print;
 use slice::{FLOATS, SLICES, WHOLES};
+use std::io;
 
 mod boundary;
 mod case;
@@ -34,25 +35,26 @@ const FARTHER: f64 = 0.5000000298023223876953125;
 const BESIDE: f64 = 0.499999992549419403076171875;
 
 // Writes the name of the entry of a kind of call; the kinds are those of the list of `replay`.
-fn print_entry(kind: usize) {
+fn print_entry(rt: &impl Print, kind: usize) -> io::Result<()> {
     match kind {
-        16 => print::text(b"momentum_inverse_diagonal"),
-        17 => print::text(b"least_squares_stencil"),
-        18 => print::text(b"least_squares_gradient"),
-        19 => print::text(b"pressure_face_coefficients"),
-        20 => print::text(b"pressure_face_coefficients_with_boundary"),
-        21 => print::text(b"rhie_chow_predicted_flux"),
-        22 => print::text(b"correct_face_flux_with_boundary"),
-        23 => print::text(b"correct_cell_velocity_from_gradient"),
-        24 => print::text(b"integrated_divergence"),
-        25 => print::text(b"continuity_metrics"),
-        _ => print::text(b"step"),
+        16 => print::text(rt, b"momentum_inverse_diagonal"),
+        17 => print::text(rt, b"least_squares_stencil"),
+        18 => print::text(rt, b"least_squares_gradient"),
+        19 => print::text(rt, b"pressure_face_coefficients"),
+        20 => print::text(rt, b"pressure_face_coefficients_with_boundary"),
+        21 => print::text(rt, b"rhie_chow_predicted_flux"),
+        22 => print::text(rt, b"correct_face_flux_with_boundary"),
+        23 => print::text(rt, b"correct_cell_velocity_from_gradient"),
+        24 => print::text(rt, b"integrated_divergence"),
+        25 => print::text(rt, b"continuity_metrics"),
+        _ => print::text(rt, b"step"),
     }
 }
 
 // Makes the call of a kind, and writes its answer and its outputs; lent are the counts, the room for
 // records, the slices' lengths and mesh numbers, the whole numbers and the floats.
 fn show(
+    rt: &impl Print,
     kind: usize,
     counts: Counts,
     records: usize,
@@ -60,38 +62,38 @@ fn show(
     m: &[u64; SLICES],
     w: &[usize; WHOLES],
     x: &[f64; FLOATS],
-) {
+) -> io::Result<()> {
     match kind {
-        17 => equations::show(counts, records, n, m, w, x),
-        21 | 25 => two::show(kind, counts, records, n, m, w, x),
-        26 => whole_step::show(counts, records, n, m, w, x),
-        _ => one::show(kind, counts, records, n, m, w, x),
+        17 => equations::show(rt, counts, records, n, m, w, x),
+        21 | 25 => two::show(rt, kind, counts, records, n, m, w, x),
+        26 => whole_step::show(rt, counts, records, n, m, w, x),
+        _ => one::show(rt, kind, counts, records, n, m, w, x),
     }
 }
 
 // Writes a case's line.
-fn run(kind: usize, name: &[u8], case: Case) {
-    print_entry(kind);
-    print::text(b", ");
-    print::text(name);
+fn run(rt: &impl Print, kind: usize, name: &[u8], case: Case) -> io::Result<()> {
+    print_entry(rt, kind)?;
+    print::text(rt, b", ")?;
+    print::text(rt, name)?;
     let n = case.lengths;
     let m = case.numbers;
     let w = case.whole;
     let x = case.floats;
-    show(kind, case.counts, case.records, &n, &m, &w, &x);
-    print::text(b"\n");
+    show(rt, kind, case.counts, case.records, &n, &m, &w, &x)?;
+    print::text(rt, b"\n")
 }
 
-pub(crate) fn all() {
-    diagonal::cases();
-    equations::cases();
-    gradient::cases();
-    coefficients::cases();
-    boundary::cases();
-    prediction::cases();
-    correction::cases();
-    velocity::cases();
-    outflow::cases();
-    metrics::cases();
-    whole_step::cases();
+pub(crate) fn all(rt: &impl Print) -> io::Result<()> {
+    diagonal::cases(rt)?;
+    equations::cases(rt)?;
+    gradient::cases(rt)?;
+    coefficients::cases(rt)?;
+    boundary::cases(rt)?;
+    prediction::cases(rt)?;
+    correction::cases(rt)?;
+    velocity::cases(rt)?;
+    outflow::cases(rt)?;
+    metrics::cases(rt)?;
+    whole_step::cases(rt)
 }

@@ -4,24 +4,25 @@
 #![tactic(auto)]
 
 use mesh::Answer;
+use std::io;
 
 mod entries;
 
 // Writes what follows a case's name. Answers whether the call was accepted.
-fn print_answer(answer: Answer) -> bool {
+fn print_answer(rt: &impl Print, answer: Answer) -> io::Result<bool> {
     match answer {
         Answer::Accepted => {
-            pattern::print::text(b": accepted");
-            true
+            pattern::print::text(rt, b": accepted")?;
+            Ok(true)
         }
         Answer::Refused(number, index) => {
-            pattern::print::text(b": ");
-            pattern::print::refusal(number, index);
-            false
+            pattern::print::text(rt, b": ")?;
+            pattern::print::refusal(rt, number, index)?;
+            Ok(false)
         }
     }
 }
 
-fn main() {
-    entries::all();
+fn main(rt: HostRuntime) -> io::Result<()> {
+    entries::all(&rt)
 }

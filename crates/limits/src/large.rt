@@ -3,6 +3,7 @@ ghost use Rattle.std.specs.Prelude.{◌≤◌};
 
 use crate::{float_part, part, print};
 use mesh::{Answer, Counts};
+use std::io;
 
 // The check of so many cells, faces, face records and neighbour records, in zeros: every face has
 // the owner 0 and no neighbour, and every chain is empty.
@@ -38,29 +39,41 @@ fn checked(
     )
 }
 
-fn cells(n: &[usize; 131072], x: &[f64; 589824]) {
-    print(b"no cell", checked(n, x, 0, 0, 0, 0));
-    print(b"no cell but a face", checked(n, x, 0, 1, 0, 0));
-    print(b"one cell with no face", checked(n, x, 1, 0, 0, 0));
-    print(b"65535 cells", checked(n, x, 65535, 0, 0, 0));
-    print(b"65536 cells", checked(n, x, 65536, 0, 0, 0));
+fn cells(rt: &impl Print, n: &[usize; 131072], x: &[f64; 589824]) -> io::Result<()> {
+    print(rt, b"no cell", checked(n, x, 0, 0, 0, 0))?;
+    print(rt, b"no cell but a face", checked(n, x, 0, 1, 0, 0))?;
+    print(rt, b"one cell with no face", checked(n, x, 1, 0, 0, 0))?;
+    print(rt, b"65535 cells", checked(n, x, 65535, 0, 0, 0))?;
+    print(rt, b"65536 cells", checked(n, x, 65536, 0, 0, 0))
 }
 
-fn others(n: &[usize; 131072], x: &[f64; 589824]) {
-    print(b"65535 faces", checked(n, x, 1, 65535, 0, 0));
-    print(b"65536 faces", checked(n, x, 1, 65536, 0, 0));
-    print(b"65535 face records", checked(n, x, 1, 0, 65535, 0));
-    print(b"65536 face records", checked(n, x, 1, 0, 65536, 0));
-    print(b"65535 neighbour records", checked(n, x, 1, 0, 0, 65535));
-    print(b"65536 neighbour records", checked(n, x, 1, 0, 0, 65536));
-    print(b"65535 of each", checked(n, x, 65535, 65535, 65535, 65535));
+fn others(rt: &impl Print, n: &[usize; 131072], x: &[f64; 589824]) -> io::Result<()> {
+    print(rt, b"65535 faces", checked(n, x, 1, 65535, 0, 0))?;
+    print(rt, b"65536 faces", checked(n, x, 1, 65536, 0, 0))?;
+    print(rt, b"65535 face records", checked(n, x, 1, 0, 65535, 0))?;
+    print(rt, b"65536 face records", checked(n, x, 1, 0, 65536, 0))?;
+    print(
+        rt,
+        b"65535 neighbour records",
+        checked(n, x, 1, 0, 0, 65535),
+    )?;
+    print(
+        rt,
+        b"65536 neighbour records",
+        checked(n, x, 1, 0, 0, 65536),
+    )?;
+    print(
+        rt,
+        b"65535 of each",
+        checked(n, x, 65535, 65535, 65535, 65535),
+    )
 }
 
-pub(crate) fn counts() {
+pub(crate) fn counts(rt: &impl Print) -> io::Result<()> {
     let numbers = [0; 131072];
     let floats = [0.0; 589824];
-    cells(&numbers, &floats);
-    others(&numbers, &floats);
+    cells(rt, &numbers, &floats)?;
+    others(rt, &numbers, &floats)
 }
 
 // Chains each record but the last to the next.
@@ -96,15 +109,16 @@ fn chained(facing: &[usize; 131070]) -> Answer {
     )
 }
 
-pub(crate) fn chains() {
+pub(crate) fn chains(rt: &impl Print) -> io::Result<()> {
     let mut records = [0; 131070];
     chain(&mut records);
-    print(b"chain of 65535 face records", chained(&records));
+    print(rt, b"chain of 65535 face records", chained(&records))?;
     records[131069] = 1;
-    print(b"circle of 65535 face records", chained(&records));
+    print(rt, b"circle of 65535 face records", chained(&records))?;
     records[131069] = 65536;
     print(
+        rt,
         b"chain of 65535 face records and a missing one",
         chained(&records),
-    );
+    )
 }

@@ -7,6 +7,7 @@ ghost use Rattle.std.specs.Prelude.{◌≡◌, take};
 
 use lent::Lent;
 use mesh::Answer;
+use std::io;
 
 mod chains;
 mod faces;
@@ -35,29 +36,29 @@ fn float_part(s: &[f64], n: usize) -> &[f64]
 }
 
 // Writes a case's line.
-fn print(name: &[u8], answer: Answer) {
-    pattern::print::text(name);
+fn print(rt: &impl Print, name: &[u8], answer: Answer) -> io::Result<()> {
+    pattern::print::text(rt, name)?;
     match answer {
-        Answer::Accepted => pattern::print::text(b": accepted"),
+        Answer::Accepted => pattern::print::text(rt, b": accepted")?,
         Answer::Refused(number, index) => {
-            pattern::print::text(b": ");
-            pattern::print::refusal(number, index);
+            pattern::print::text(rt, b": ")?;
+            pattern::print::refusal(rt, number, index)?;
         }
     }
-    pattern::print::text(b"\n");
+    pattern::print::text(rt, b"\n")
 }
 
-fn show(name: &[u8], lent: Lent) {
-    print(name, lent.checked());
+fn show(rt: &impl Print, name: &[u8], lent: Lent) -> io::Result<()> {
+    print(rt, name, lent.checked())
 }
 
-fn main() {
-    large::counts();
-    shape::dimensions();
-    shape::lengths();
-    shape::numbers();
-    faces::all();
-    chains::all();
-    large::chains();
-    links::all();
+fn main(rt: HostRuntime) -> io::Result<()> {
+    large::counts(&rt)?;
+    shape::dimensions(&rt)?;
+    shape::lengths(&rt)?;
+    shape::numbers(&rt)?;
+    faces::all(&rt)?;
+    chains::all(&rt)?;
+    large::chains(&rt)?;
+    links::all(&rt)
 }

@@ -7,64 +7,69 @@
 use case::Case;
 use mesh::Answer;
 use pattern::print;
+use std::io;
 
 mod case;
 mod cases;
 
-fn print_answer(answer: Answer) {
+fn print_answer(rt: &impl Print, answer: Answer) -> io::Result<()> {
     match answer {
-        Answer::Accepted => print::text(b": accepted,"),
+        Answer::Accepted => print::text(rt, b": accepted,"),
         Answer::Refused(number, index) => {
-            print::text(b": ");
-            print::refusal(number, index);
-            print::text(b",");
+            print::text(rt, b": ")?;
+            print::refusal(rt, number, index)?;
+            print::text(rt, b",")
         }
     }
 }
 
 // Makes the call of a case with this slice, and writes the answer and the slice.
-fn call(case: Case, flux: &mut [f64]) {
+fn call(rt: &impl Print, case: Case, flux: &mut [f64]) -> io::Result<()> {
     let adjacency = case.adjacency;
     let codes = case.codes;
     let values = case.values;
     let coefficients = case.coefficients;
     let corrections = case.corrections;
-    print_answer(simple::correct_face_flux_in_place(
-        case.counts,
-        &adjacency,
-        case.number,
-        &codes,
-        &values,
-        case.coefficient,
-        &coefficients,
-        case.correction,
-        &corrections,
-        case.prediction,
-        flux,
-    ));
-    print::floats(flux);
+    print_answer(
+        rt,
+        simple::correct_face_flux_in_place(
+            case.counts,
+            &adjacency,
+            case.number,
+            &codes,
+            &values,
+            case.coefficient,
+            &coefficients,
+            case.correction,
+            &corrections,
+            case.prediction,
+            flux,
+        ),
+    )?;
+    print::floats(rt, flux)
 }
 
 // Makes the call with the first numbers of a slice, where it has so many.
-fn call_with(case: Case, flux: &mut [f64], length: usize) {
+fn call_with(rt: &impl Print, case: Case, flux: &mut [f64], length: usize) -> io::Result<()> {
     if length <= flux.len() {
-        call(case, &mut flux[..length]);
+        call(rt, case, &mut flux[..length])?;
     }
+    Ok(())
 }
 
 // Writes a case's line.
-fn run(name: &[u8], case: Case) {
-    print::text(b"correct_face_flux_in_place, ");
-    print::text(name);
+fn run(rt: &impl Print, name: &[u8], case: Case) -> io::Result<()> {
+    print::text(rt, b"correct_face_flux_in_place, ")?;
+    print::text(rt, name)?;
     let mut flux = case.flux;
-    call_with(case, &mut flux, case.length);
-    print::text(b"\n");
+    call_with(rt, case, &mut flux, case.length)?;
+    print::text(rt, b"\n")
 }
 
-fn main() {
-    cases::accepted();
-    cases::of_shape();
-    cases::of_numbers();
-    cases::of_mesh();
-    cases::of_arithmetic();
+fn main(rt: HostRuntime) -> io::Result<()> {
+    cases::accepted(&rt)?;
+    cases::of_shape(&rt)?;
+    cases::of_numbers(&rt)?;
+    cases::of_mesh(&rt)?;
+    cases::of_arithmetic(&rt)
 }

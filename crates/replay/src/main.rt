@@ -5,7 +5,7 @@
 #![tactic(auto)]
 
 use crate::tally::PLACES;
-use libc::{STDIN_FILENO, STDOUT_FILENO};
+use std::io;
 
 mod blocks;
 mod calls;
@@ -37,49 +37,54 @@ fn more(n: usize) -> usize {
     n
 }
 
-fn print_broken(line: u64) {
-    io::write_all(STDOUT_FILENO, b"line ");
-    io::print_decimal(STDOUT_FILENO, line);
-    io::write_all(STDOUT_FILENO, b": the list is broken\n");
+fn print_broken(rt: &impl Print, line: u64) -> io::Result<()> {
+    println!(rt; "line {line}: the list is broken")
 }
 
 // Reads standard input, and answers how many bytes it has, or BYTES where it has more.
-fn filled(text: &mut [u8; BYTES]) -> usize {
-    io::read_full(STDIN_FILENO, text)
+fn filled(rt: &impl Input, text: &mut [u8; BYTES]) -> io::Result<usize> {
+    pattern::read::fill(&mut rt.reader(), text)
 }
 
 // Walks over the first n words, and writes the tally where no block is broken.
-fn replayed(words: &[usize], floats: &[f64], lines: &[u64], n: usize) {
+fn replayed(
+    rt: &impl Print,
+    words: &[usize],
+    floats: &[f64],
+    lines: &[u64],
+    n: usize,
+) -> io::Result<()> {
     if n == NOWHERE {
-        return;
+        return Ok(());
     }
     let mut tally = [0; PLACES];
-    if walk::walked(words::part(words, 0, n), floats, lines, &mut tally) {
-        tally::print_tally(&tally);
+    if walk::walked(rt, words::part(words, 0, n), floats, lines, &mut tally)? {
+        tally::print_tally(rt, &tally)?;
     }
+    Ok(())
 }
 
 // Makes the calls of a list of n bytes.
 fn run(
+    rt: &impl Print,
     text: &[u8; BYTES],
     n: usize,
     words: &mut [usize; WORDS],
     floats: &mut [f64; WORDS],
     lines: &mut [u64; WORDS],
-) {
+) -> io::Result<()> {
     if n == BYTES {
-        io::write_all(STDOUT_FILENO, b"the list is too long\n");
-        return;
+        return println!(rt; "the list is too long");
     }
-    let count = text::read(text::head(text, n), words, floats, lines);
-    replayed(words, floats, lines, count);
+    let count = text::read(rt, text::head(text, n), words, floats, lines)?;
+    replayed(rt, words, floats, lines, count)
 }
 
-fn main() {
+fn main(rt: HostRuntime) -> io::Result<()> {
     let mut text = [0u8; BYTES];
-    let n = filled(&mut text);
+    let n = filled(&rt, &mut text)?;
     let mut words = [0; WORDS];
     let mut floats = [0.0; WORDS];
     let mut lines = [0; WORDS];
-    run(&text, n, &mut words, &mut floats, &mut lines);
+    run(&rt, &text, n, &mut words, &mut floats, &mut lines)
 }

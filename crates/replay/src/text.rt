@@ -1,6 +1,7 @@
 // The text of the list, line by line.
 use crate::{NOWHERE, WORDS};
 use pattern::Hex;
+use std::io;
 
 // What a line holds, its newline left out.
 #[derive(Clone, Copy)]
@@ -114,11 +115,12 @@ pub(crate) fn head(text: &[u8], n: usize) -> &[u8] {
 // Reads every line, up to the first that is broken. Answers how many words there are, or NOWHERE
 // after a broken line, whose number it writes. A line takes a byte or more.
 pub(crate) fn read(
+    rt: &impl Print,
     text: &[u8],
     words: &mut [usize; WORDS],
     floats: &mut [f64; WORDS],
     lines: &mut [u64; WORDS],
-) -> usize {
+) -> io::Result<usize> {
     let mut p = Progress {
         at: 0,
         words: 0,
@@ -130,8 +132,8 @@ pub(crate) fn read(
         p = step(text, p, line as u64, words, floats, lines);
     }
     if !p.good {
-        crate::print_broken(line as u64);
-        return NOWHERE;
+        crate::print_broken(rt, line as u64)?;
+        return Ok(NOWHERE);
     }
-    p.words
+    Ok(p.words)
 }

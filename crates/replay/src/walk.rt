@@ -4,6 +4,7 @@ use crate::calls::{Call, Outcome, compared};
 use crate::tally::{ROOTS, Tally, tallied};
 use crate::words::{skip, word};
 use crate::{NOWHERE, calls, print_broken};
+use std::io;
 
 // The place of the next block and those of the last mesh and conditions, and whether to go on.
 #[derive(Clone, Copy)]
@@ -32,26 +33,28 @@ fn root_at(words: &[usize], floats: &[f64], at: usize) -> Outcome {
 
 // Checks pairs of a number and its root. Answers whether none is broken.
 fn roots(
+    rt: &impl Print,
     words: &[usize],
     floats: &[f64],
     lines: &[u64],
     at: usize,
     pairs: usize,
     tally: &mut Tally,
-) -> bool {
+) -> io::Result<bool> {
     let mut good = true;
     let mut k = 0;
     while k < pairs && good {
         let pair = skip(words, skip(words, at, k), k);
         good = tallied(
+            rt,
             tally,
             ROOTS,
             line_at(lines, pair),
             root_at(words, floats, pair),
-        );
+        )?;
         k += 1;
     }
-    good
+    Ok(good)
 }
 
 // The outcome of a call that is made again, of the words from `at` up to `end`.
@@ -71,15 +74,16 @@ fn made(words: &[usize], floats: &[f64], w: Walk, kind: usize, at: usize, end: u
 }
 
 // Answers whether a block is whole, and writes its line where it is not.
-fn is_whole(whole: bool, line: u64) -> bool {
+fn is_whole(rt: &impl Print, whole: bool, line: u64) -> io::Result<bool> {
     if !whole {
-        print_broken(line);
+        print_broken(rt, line)?;
     }
-    whole
+    Ok(whole)
 }
 
 // Takes the block of the words from `at` up to `end`. Answers whether it is not broken.
 fn taken(
+    rt: &impl Print,
     words: &[usize],
     floats: &[f64],
     lines: &[u64],
@@ -87,16 +91,21 @@ fn taken(
     at: usize,
     end: usize,
     tally: &mut Tally,
-) -> bool {
+) -> io::Result<bool> {
     let kind = word(words, w.at, 0);
     let n = word(words, w.at, 1);
     let line = line_at(lines, w.at);
     match kind {
-        1 => is_whole(mesh_at(words, at).end == end, line),
-        2 => is_whole(conditions_at(words, at).end == end, line),
-        3 => { is_whole(n % 2 == 0, line) && roots(words, floats, lines, at, n / 2, tally) }
-        16..=26 => { tallied(tally, kind, line, made(words, floats, w, kind, at, end)) }
-        _ => is_whole(false, line),
+        1 => is_whole(rt, mesh_at(words, at).end == end, line),
+        2 => is_whole(rt, conditions_at(words, at).end == end, line),
+        3 => {
+            Ok(
+                is_whole(rt, n % 2 == 0, line)?
+                    && roots(rt, words, floats, lines, at, n / 2, tally)?,
+            )
+        }
+        16..=26 => { tallied(rt, tally, kind, line, made(words, floats, w, kind, at, end)) }
+        _ => is_whole(rt, false, line),
     }
 }
 
@@ -108,22 +117,35 @@ fn last(is_one: bool, at: usize, before: usize) -> usize {
     before
 }
 
-fn step(words: &[usize], floats: &[f64], lines: &[u64], w: Walk, tally: &mut Tally) -> Walk {
+fn step(
+    rt: &impl Print,
+    words: &[usize],
+    floats: &[f64],
+    lines: &[u64],
+    w: Walk,
+    tally: &mut Tally,
+) -> io::Result<Walk> {
     let kind = word(words, w.at, 0);
     let at = skip(words, w.at, 2);
     let end = skip(words, at, word(words, w.at, 1));
-    let whole = is_whole(end != NOWHERE, line_at(lines, w.at));
-    Walk {
+    let whole = is_whole(rt, end != NOWHERE, line_at(lines, w.at))?;
+    Ok(Walk {
         at: end,
         mesh: last(kind == 1, at, w.mesh),
         conditions: last(kind == 2, at, w.conditions),
-        going: whole && taken(words, floats, lines, w, at, end, tally),
-    }
+        going: whole && taken(rt, words, floats, lines, w, at, end, tally)?,
+    })
 }
 
 // Walks over every block, up to the first that is broken. Answers whether none is. A block takes a
 // word or more.
-pub(crate) fn walked(words: &[usize], floats: &[f64], lines: &[u64], tally: &mut Tally) -> bool {
+pub(crate) fn walked(
+    rt: &impl Print,
+    words: &[usize],
+    floats: &[f64],
+    lines: &[u64],
+    tally: &mut Tally,
+) -> io::Result<bool> {
     let mut w = Walk {
         at: 0,
         mesh: NOWHERE,
@@ -132,8 +154,8 @@ pub(crate) fn walked(words: &[usize], floats: &[f64], lines: &[u64], tally: &mut
     };
     let mut i = 0;
     while i < words.len() && w.going && w.at < words.len() {
-        w = step(words, floats, lines, w, tally);
+        w = step(rt, words, floats, lines, w, tally)?;
         i += 1;
     }
-    w.going
+    Ok(w.going)
 }

@@ -5,8 +5,9 @@
 
 ghost use Rattle.std.specs.Prelude.{◌+◌, ◌^◌, ◌≤◌, ◌<◌};
 
-use libc::{STDIN_FILENO, STDOUT_FILENO};
 use line::Line;
+use pattern::print;
+use std::io::{self, BufRead};
 
 mod line;
 
@@ -18,117 +19,101 @@ struct Tally {
     reading: bool,
 }
 
-// Whether standard input has nothing left. A read that fails is no end.
-fn is_at_end() -> bool {
-    let mut byte = [0u8; 1];
-    libc::read(STDIN_FILENO, &mut byte) == 0
+// Whether the input has nothing left.
+fn is_at_end(input: &mut impl BufRead) -> io::Result<bool> {
+    Ok(input.fill_buf()?.is_empty())
 }
 
-// The line that stands next on standard input. One that is cut short is broken.
-fn next_line() -> Line {
-    let mut text = [0u8; 34];
-    let n = io::read_full(STDIN_FILENO, &mut text);
-    if n == 0 && is_at_end() {
-        return Line::End;
+// The line that stands next in the input. One that is cut short is broken.
+fn next_line(input: &mut impl BufRead) -> io::Result<Line> {
+    if is_at_end(input)? {
+        return Ok(Line::End);
     }
-    line::patterns(&text[..n])
+    let mut text = [0u8; 34];
+    let n = pattern::read::fill(input, &mut text)?;
+    Ok(line::patterns(&text[..n]))
 }
 
 // Writes a root's pattern, or 'nan'.
-fn print_root(root: f64) {
+fn print_root(rt: &impl Print, root: f64) -> io::Result<()> {
     if root != root {
-        io::write_all(STDOUT_FILENO, b"nan");
+        print::text(rt, b"nan")
     } else {
-        io::print_hex(STDOUT_FILENO, f64::to_bits(root), 16);
+        print::word(rt, f64::to_bits(root))
     }
 }
 
-fn print_difference(line: u64, x: u64, root: f64, expected: u64) {
-    io::write_all(STDOUT_FILENO, b"line ");
-    io::print_decimal(STDOUT_FILENO, line);
-    io::write_all(STDOUT_FILENO, b": root of ");
-    io::print_hex(STDOUT_FILENO, x, 16);
-    io::write_all(STDOUT_FILENO, b" is ");
-    print_root(root);
-    io::write_all(STDOUT_FILENO, b", not ");
-    io::print_hex(STDOUT_FILENO, expected, 16);
-    io::write_all(STDOUT_FILENO, b"\n");
+fn print_difference(
+    rt: &impl Print,
+    line: u64,
+    x: u64,
+    root: f64,
+    expected: u64,
+) -> io::Result<()> {
+    print!(rt; "line {line}: root of {x:016x} is ")?;
+    print_root(rt, root)?;
+    println!(rt; ", not {expected:016x}")
 }
 
-fn print_broken(line: u64) {
-    io::write_all(STDOUT_FILENO, b"line ");
-    io::print_decimal(STDOUT_FILENO, line);
-    io::write_all(
-        STDOUT_FILENO,
-        b": broken, two patterns of 16 lower-case hex digits expected\n",
-    );
+fn print_broken(rt: &impl Print, line: u64) -> io::Result<()> {
+    println!(rt; "line {line}: broken, two patterns of 16 lower-case hex digits expected")
 }
 
-fn print_tally(tally: Tally) {
-    io::print_decimal(STDOUT_FILENO, tally.agreed);
-    io::write_all(STDOUT_FILENO, b" roots agreed");
-    if tally.differ > 0 {
-        io::write_all(STDOUT_FILENO, b", ");
-        io::print_decimal(STDOUT_FILENO, tally.differ);
-        io::write_all(STDOUT_FILENO, b" differ");
+fn print_tally(rt: &impl Print, tally: Tally) -> io::Result<()> {
+    let Tally { agreed, differ, .. } = tally;
+    print!(rt; "{agreed} roots agreed")?;
+    if differ > 0 {
+        print!(rt; ", {differ} differ")?;
     }
-    io::write_all(STDOUT_FILENO, b"\n");
+    println!(rt)
 }
 
-// Checks a root, and answers the tally with it. Only the first difference is written.
-fn checked(tally: Tally, x: u64, expected: u64) -> Tally
-    requires { tally.agreed + tally.differ + 1 < 2 ^ 64 }
-    ensures { result.agreed + result.differ ≤ tally.agreed + tally.differ + 1 }
+// Checks a root, and tallies it. Only the first difference is written.
+fn checked(rt: &impl Print, tally: &mut Tally, x: u64, expected: u64) -> io::Result<()>
+    requires { tally.old.agreed + tally.old.differ + 1 < 2 ^ 64 }
+    ensures { tally.new.agreed + tally.new.differ ≤ tally.old.agreed + tally.old.differ + 1 }
 {
     let root = binary64::sqrt(pattern::value(x));
     if pattern::is_of(expected, root) {
-        return Tally {
-            agreed: tally.agreed + 1,
-            differ: tally.differ,
-            reading: true,
-        };
+        tally.agreed += 1;
+        return Ok(());
     }
     if tally.differ == 0 {
-        print_difference(tally.agreed + 1, x, root, expected);
+        print_difference(rt, tally.agreed + 1, x, root, expected)?;
     }
-    Tally {
-        agreed: tally.agreed,
-        differ: tally.differ + 1,
-        reading: true,
-    }
+    tally.differ += 1;
+    Ok(())
 }
 
 // Reads a line and checks it. At the list's end it writes the tally, and at a broken line it writes
 // that line's number and no tally.
-fn step(tally: Tally) -> Tally
-    requires { tally.agreed + tally.differ + 1 < 2 ^ 64 }
-    ensures { result.agreed + result.differ ≤ tally.agreed + tally.differ + 1 }
+fn step(rt: &impl Print, input: &mut impl BufRead, tally: &mut Tally) -> io::Result<()>
+    requires { tally.old.agreed + tally.old.differ + 1 < 2 ^ 64 }
+    ensures { tally.new.agreed + tally.new.differ ≤ tally.old.agreed + tally.old.differ + 1 }
 {
-    match next_line() {
-        Line::Pair(x, expected) => {
-            return checked(tally, x, expected);
-        }
-        Line::Broken => print_broken(tally.agreed + tally.differ + 1),
-        Line::End => print_tally(tally),
+    match next_line(input)? {
+        Line::Pair(x, expected) => return checked(rt, tally, x, expected),
+        Line::Broken => print_broken(rt, tally.agreed + tally.differ + 1)?,
+        Line::End => print_tally(rt, *tally)?,
     }
-    Tally {
-        agreed: tally.agreed,
-        differ: tally.differ,
-        reading: false,
-    }
+    tally.reading = false;
+    Ok(())
 }
 
-// A proved loop has to end, and nothing says that the input does: the turns are counted down, from
-// a number that no run uses up.
-fn main() {
+// A proved loop has to end, and nothing says that the input does: the turns are counted, up to a
+// number that no run reaches.
+fn main(rt: HostRuntime) -> io::Result<()> {
+    let mut input = rt.reader();
     let mut tally = Tally {
         agreed: 0,
         differ: 0,
         reading: true,
     };
-    let mut turns = u64::MAX;
-    while turns > 0 && tally.reading {
-        tally = step(tally);
-        turns -= 1;
+    for _ in 0..u64::MAX {
+        if !tally.reading {
+            break;
+        }
+        step(&rt, &mut input, &mut tally)?;
     }
+    Ok(())
 }

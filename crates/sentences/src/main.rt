@@ -4,76 +4,98 @@
 // document 02; none was taken from a run.
 #![tactic(auto)]
 
+use std::io;
+
 const ROOM: usize = 44;
 
 // A call, and its line.
-fn call(number: u64, index: usize, name: &[u8], slice: &mut [u8]) {
+fn call(
+    rt: &impl Print,
+    number: u64,
+    index: usize,
+    name: &[u8],
+    slice: &mut [u8],
+) -> io::Result<()> {
     let needed = sentence::sentence(number, index, slice);
-    pattern::print::decimal(number);
-    pattern::print::text(b" ");
-    pattern::print::decimal(index as u64);
-    pattern::print::text(b" ");
-    pattern::print::text(name);
-    pattern::print::text(b": needs ");
-    pattern::print::decimal(needed as u64);
-    pattern::print::text(b" |");
-    pattern::print::text(slice);
-    pattern::print::text(b"|\n");
+    pattern::print::decimal(rt, number)?;
+    pattern::print::text(rt, b" ")?;
+    pattern::print::decimal(rt, index as u64)?;
+    pattern::print::text(rt, b" ")?;
+    pattern::print::text(rt, name)?;
+    pattern::print::text(rt, b": needs ")?;
+    pattern::print::decimal(rt, needed as u64)?;
+    pattern::print::text(rt, b" |")?;
+    pattern::print::text(rt, slice)?;
+    pattern::print::text(rt, b"|\n")
 }
 
 // A call with the first bytes of a slice, where it has so many.
-fn call_with(number: u64, index: usize, name: &[u8], slice: &mut [u8], length: usize) {
+fn call_with(
+    rt: &impl Print,
+    number: u64,
+    index: usize,
+    name: &[u8],
+    slice: &mut [u8],
+    length: usize,
+) -> io::Result<()> {
     if length <= slice.len() {
-        call(number, index, name, &mut slice[..length]);
+        call(rt, number, index, name, &mut slice[..length])?;
     }
+    Ok(())
 }
 
-fn call_filled(number: u64, index: usize, name: &[u8], length: usize) {
+fn call_filled(
+    rt: &impl Print,
+    number: u64,
+    index: usize,
+    name: &[u8],
+    length: usize,
+) -> io::Result<()> {
     let mut slice = [b'#'; ROOM];
-    call_with(number, index, name, &mut slice, length);
+    call_with(rt, number, index, name, &mut slice, length)
 }
 
 // A refusal with slices that are one byte short, that fit, that have one byte more and several more.
-fn slices(number: u64, index: usize) {
+fn slices(rt: &impl Print, number: u64, index: usize) -> io::Result<()> {
     let mut none = [b'#'; 0];
     let needed = sentence::sentence(number, index, &mut none);
     if ROOM < needed {
-        return;
+        return Ok(());
     }
     if 0 < needed {
-        call_filled(number, index, b"short", needed - 1);
+        call_filled(rt, number, index, b"short", needed - 1)?;
     }
-    call_filled(number, index, b"exact", needed);
-    call_filled(number, index, b"long", needed + 1);
-    call_filled(number, index, b"wide", ROOM);
+    call_filled(rt, number, index, b"exact", needed)?;
+    call_filled(rt, number, index, b"long", needed + 1)?;
+    call_filled(rt, number, index, b"wide", ROOM)
 }
 
-fn indices(number: u64) {
-    slices(number, 0);
-    slices(number, 7);
-    slices(number, 65535);
-    slices(number, 18446744073709551615);
+fn indices(rt: &impl Print, number: u64) -> io::Result<()> {
+    slices(rt, number, 0)?;
+    slices(rt, number, 7)?;
+    slices(rt, number, 65535)?;
+    slices(rt, number, 18446744073709551615)
 }
 
 // The numbers of the table and those beside it, then some whose last 8, 16 or 32 bits are those of 1, and
 // the largest.
-fn main() {
-    indices(0);
-    indices(1);
-    indices(2);
-    indices(3);
-    indices(4);
-    indices(5);
-    indices(6);
-    indices(7);
-    indices(8);
-    indices(9);
-    indices(10);
-    indices(11);
-    indices(12);
-    indices(13);
-    indices(257);
-    indices(65537);
-    indices(4294967297);
-    indices(18446744073709551615);
+fn main(rt: HostRuntime) -> io::Result<()> {
+    indices(&rt, 0)?;
+    indices(&rt, 1)?;
+    indices(&rt, 2)?;
+    indices(&rt, 3)?;
+    indices(&rt, 4)?;
+    indices(&rt, 5)?;
+    indices(&rt, 6)?;
+    indices(&rt, 7)?;
+    indices(&rt, 8)?;
+    indices(&rt, 9)?;
+    indices(&rt, 10)?;
+    indices(&rt, 11)?;
+    indices(&rt, 12)?;
+    indices(&rt, 13)?;
+    indices(&rt, 257)?;
+    indices(&rt, 65537)?;
+    indices(&rt, 4294967297)?;
+    indices(&rt, 18446744073709551615)
 }

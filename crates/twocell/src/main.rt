@@ -5,6 +5,7 @@
 
 use mesh::{Answer, Counts};
 use pattern::print;
+use std::io;
 
 // The mesh's number, which every slice has too.
 const MESH: u64 = 1;
@@ -24,29 +25,28 @@ fn counts() -> Counts {
 }
 
 // A line: a number's place, and the 16 hex digits of its pattern.
-fn print_row(i: usize, x: f64) {
-    print::decimal(i as u64);
-    print::text(b" ");
-    print::float(x);
-    print::text(b"\n");
+fn print_row(rt: &impl Print, i: usize, x: f64) -> io::Result<()> {
+    print::decimal(rt, i as u64)?;
+    print::text(rt, b" ")?;
+    print::float(rt, x)?;
+    print::text(rt, b"\n")
 }
 
-fn print_rows(numbers: &[f64]) {
-    let mut i = 0;
-    while i < numbers.len() {
-        print_row(i, numbers[i]);
-        i += 1;
+fn print_rows(rt: &impl Print, numbers: &[f64]) -> io::Result<()> {
+    for (i, x) in numbers.iter().enumerate() {
+        print_row(rt, i, *x)?;
     }
+    Ok(())
 }
 
 // Writes a refusal. Answers whether there is none.
-fn passed(answer: Answer) -> bool {
+fn passed(rt: &impl Print, answer: Answer) -> io::Result<bool> {
     match answer {
-        Answer::Accepted => true,
+        Answer::Accepted => Ok(true),
         Answer::Refused(number, index) => {
-            print::refusal(number, index);
-            print::text(b"\n");
-            false
+            print::refusal(rt, number, index)?;
+            print::text(rt, b"\n")?;
+            Ok(false)
         }
     }
 }
@@ -72,17 +72,18 @@ fn summed(flux: &[f64; 3], outflow: &mut [f64; 2]) -> Answer {
     numerics::integrated_divergence(counts(), &ADJACENCY, MESH, flux, outflow)
 }
 
-fn print_sheet(flux: &[f64; 3], outflow: &[f64; 2]) {
-    print::text(b"face flux\n");
-    print_rows(flux);
-    print::text(b"cell outflow\n");
-    print_rows(outflow);
+fn print_sheet(rt: &impl Print, flux: &[f64; 3], outflow: &[f64; 2]) -> io::Result<()> {
+    print::text(rt, b"face flux\n")?;
+    print_rows(rt, flux)?;
+    print::text(rt, b"cell outflow\n")?;
+    print_rows(rt, outflow)
 }
 
-fn main() {
+fn main(rt: HostRuntime) -> io::Result<()> {
     let mut flux = [0.0; 3];
     let mut outflow = [0.0; 2];
-    if passed(corrected(&mut flux)) && passed(summed(&flux, &mut outflow)) {
-        print_sheet(&flux, &outflow);
+    if passed(&rt, corrected(&mut flux))? && passed(&rt, summed(&flux, &mut outflow))? {
+        print_sheet(&rt, &flux, &outflow)?;
     }
+    Ok(())
 }

@@ -4,6 +4,7 @@ use crate::entries::slice::{
 };
 use crate::entries::{BESIDE, NEAR, change};
 use mesh::{Answer, Counts};
+use std::io;
 
 const KIND: usize = 20;
 
@@ -29,28 +30,29 @@ pub(crate) fn call(
     )
 }
 
-fn within_arithmetic() {
-    change::float(KIND, b"centre distance 2^-26", PLACES, 4, NEAR);
-    change::float(KIND, b"response -1", RESPONSES, 0, -1.0);
-    change::float(KIND, b"area of face 6 0", GEOMETRY, 58, 0.0);
-    change::float(KIND, b"centre of face 3 its cell's", GEOMETRY, 28, 0.5);
+fn within_arithmetic(rt: &impl Print) -> io::Result<()> {
+    change::float(rt, KIND, b"centre distance 2^-26", PLACES, 4, NEAR)?;
+    change::float(rt, KIND, b"response -1", RESPONSES, 0, -1.0)?;
+    change::float(rt, KIND, b"area of face 6 0", GEOMETRY, 58, 0.0)?;
+    change::float(rt, KIND, b"centre of face 3 its cell's", GEOMETRY, 28, 0.5)
 }
 
-pub(crate) fn cases() {
-    change::nothing(KIND, b"as it stands");
+pub(crate) fn cases(rt: &impl Print) -> io::Result<()> {
+    change::nothing(rt, KIND, b"as it stands")?;
     change::float(
+        rt,
         KIND,
         b"centre of face 3 2^-27 from its cell's",
         GEOMETRY,
         28,
         BESIDE,
-    );
-    change::whole(KIND, b"code 1 at linked face 1", CODES, 2, 1);
-    change::dimension(KIND, b"dimension 4", 4);
-    change::length(KIND, b"values one short", VALUES, 27);
-    change::number(KIND, b"conditions of another mesh", CODES, 8);
-    change::number(KIND, b"responses of another mesh", RESPONSES, 8);
-    change::whole(KIND, b"code 3 at face 4", CODES, 8, 3);
-    change::whole(KIND, b"link of face 4 to face 5", CODES, 9, 6);
-    within_arithmetic();
+    )?;
+    change::whole(rt, KIND, b"code 1 at linked face 1", CODES, 2, 1)?;
+    change::dimension(rt, KIND, b"dimension 4", 4)?;
+    change::length(rt, KIND, b"values one short", VALUES, 27)?;
+    change::number(rt, KIND, b"conditions of another mesh", CODES, 8)?;
+    change::number(rt, KIND, b"responses of another mesh", RESPONSES, 8)?;
+    change::whole(rt, KIND, b"code 3 at face 4", CODES, 8, 3)?;
+    change::whole(rt, KIND, b"link of face 4 to face 5", CODES, 9, 6)?;
+    within_arithmetic(rt)
 }

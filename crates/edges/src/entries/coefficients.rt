@@ -4,6 +4,7 @@ use crate::entries::slice::{
 };
 use crate::entries::{FARTHER, NEAR, change};
 use mesh::{Answer, Counts};
+use std::io;
 
 const KIND: usize = 19;
 
@@ -26,13 +27,13 @@ pub(crate) fn call(
     )
 }
 
-pub(crate) fn cases() {
-    change::nothing(KIND, b"as it stands");
-    change::float(KIND, b"centre distance 2^-25", PLACES, 4, FARTHER);
-    change::dimension(KIND, b"dimension 4", 4);
-    change::length(KIND, b"places one short", PLACES, 7);
-    change::number(KIND, b"responses of another mesh", RESPONSES, 8);
-    change::whole(KIND, b"owner of face 3 missing", ADJACENCY, 6, 2);
-    change::float(KIND, b"centre distance 2^-26", PLACES, 4, NEAR);
-    change::float(KIND, b"response -1", RESPONSES, 0, -1.0);
+pub(crate) fn cases(rt: &impl Print) -> io::Result<()> {
+    change::nothing(rt, KIND, b"as it stands")?;
+    change::float(rt, KIND, b"centre distance 2^-25", PLACES, 4, FARTHER)?;
+    change::dimension(rt, KIND, b"dimension 4", 4)?;
+    change::length(rt, KIND, b"places one short", PLACES, 7)?;
+    change::number(rt, KIND, b"responses of another mesh", RESPONSES, 8)?;
+    change::whole(rt, KIND, b"owner of face 3 missing", ADJACENCY, 6, 2)?;
+    change::float(rt, KIND, b"centre distance 2^-26", PLACES, 4, NEAR)?;
+    change::float(rt, KIND, b"response -1", RESPONSES, 0, -1.0)
 }

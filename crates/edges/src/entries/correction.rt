@@ -5,6 +5,7 @@ use crate::entries::slice::{
     float, whole,
 };
 use mesh::{Answer, Counts};
+use std::io;
 
 const KIND: usize = 22;
 
@@ -32,28 +33,29 @@ pub(crate) fn call(
     )
 }
 
-fn within_arithmetic() {
-    change::float(KIND, b"coefficient 0 at face 0", COEFFICIENTS, 0, 0.0);
-    change::float(KIND, b"coefficient 0 at face 6", COEFFICIENTS, 6, 0.0);
+fn within_arithmetic(rt: &impl Print) -> io::Result<()> {
+    change::float(rt, KIND, b"coefficient 0 at face 0", COEFFICIENTS, 0, 0.0)?;
+    change::float(rt, KIND, b"coefficient 0 at face 6", COEFFICIENTS, 6, 0.0)?;
     change::float(
+        rt,
         KIND,
         b"correction of cell 0 -1.7e308",
         CORRECTION,
         0,
         -1.7e308,
-    );
-    change::whole(KIND, b"no condition at face 4", CODES, 8, 0);
+    )?;
+    change::whole(rt, KIND, b"no condition at face 4", CODES, 8, 0)
 }
 
-pub(crate) fn cases() {
-    change::nothing(KIND, b"as it stands");
-    change::whole(KIND, b"code 1 at linked face 1", CODES, 2, 1);
-    change::dimension(KIND, b"dimension 4", 4);
-    change::length(KIND, b"output one long", FLUX, 8);
-    change::number(KIND, b"conditions of another mesh", CODES, 8);
-    change::number(KIND, b"correction of another mesh", CORRECTION, 8);
-    change::whole(KIND, b"neighbour of face 0 its owner", ADJACENCY, 1, 1);
-    change::whole(KIND, b"code 3 at face 4", CODES, 8, 3);
-    change::whole(KIND, b"link of face 4 to face 5", CODES, 9, 6);
-    within_arithmetic();
+pub(crate) fn cases(rt: &impl Print) -> io::Result<()> {
+    change::nothing(rt, KIND, b"as it stands")?;
+    change::whole(rt, KIND, b"code 1 at linked face 1", CODES, 2, 1)?;
+    change::dimension(rt, KIND, b"dimension 4", 4)?;
+    change::length(rt, KIND, b"output one long", FLUX, 8)?;
+    change::number(rt, KIND, b"conditions of another mesh", CODES, 8)?;
+    change::number(rt, KIND, b"correction of another mesh", CORRECTION, 8)?;
+    change::whole(rt, KIND, b"neighbour of face 0 its owner", ADJACENCY, 1, 1)?;
+    change::whole(rt, KIND, b"code 3 at face 4", CODES, 8, 3)?;
+    change::whole(rt, KIND, b"link of face 4 to face 5", CODES, 9, 6)?;
+    within_arithmetic(rt)
 }

@@ -2,6 +2,7 @@
 use crate::entries::change;
 use crate::entries::slice::{DIAGONAL, FLOATS, RESPONSES, SLICES, float};
 use mesh::{Answer, Counts};
+use std::io;
 
 const KIND: usize = 16;
 
@@ -14,11 +15,11 @@ pub(crate) fn call(
     simple::momentum_inverse_diagonal(counts, float(x, n, DIAGONAL), out)
 }
 
-pub(crate) fn cases() {
-    change::nothing(KIND, b"as it stands");
-    change::float(KIND, b"diagonal 2^-1074", DIAGONAL, 0, 5.0e-324);
-    change::dimension(KIND, b"dimension 4", 4);
-    change::length(KIND, b"diagonal one short", DIAGONAL, 1);
-    change::length(KIND, b"output one long", RESPONSES, 3);
-    change::float(KIND, b"diagonal 0", DIAGONAL, 1, 0.0);
+pub(crate) fn cases(rt: &impl Print) -> io::Result<()> {
+    change::nothing(rt, KIND, b"as it stands")?;
+    change::float(rt, KIND, b"diagonal 2^-1074", DIAGONAL, 0, 5.0e-324)?;
+    change::dimension(rt, KIND, b"dimension 4", 4)?;
+    change::length(rt, KIND, b"diagonal one short", DIAGONAL, 1)?;
+    change::length(rt, KIND, b"output one long", RESPONSES, 3)?;
+    change::float(rt, KIND, b"diagonal 0", DIAGONAL, 1, 0.0)
 }

@@ -4,6 +4,7 @@ use crate::entries::slice::{
     EQUATIONS, FLOATS, INVERSES, PRESSURE, SLICES, STARTS, WEIGHTS, WHOLES, float, whole,
 };
 use mesh::{Answer, Counts};
+use std::io;
 
 const KIND: usize = 18;
 
@@ -30,11 +31,11 @@ pub(crate) fn call(
     )
 }
 
-pub(crate) fn cases() {
-    change::nothing(KIND, b"as it stands");
-    change::dimension(KIND, b"dimension 4", 4);
-    change::length(KIND, b"pressure one short", PRESSURE, 1);
-    change::number(KIND, b"stencil of another mesh", STARTS, 8);
-    change::number(KIND, b"pressure of another mesh", PRESSURE, 8);
-    change::whole(KIND, b"first equation of cell 1 missing", STARTS, 1, 8);
+pub(crate) fn cases(rt: &impl Print) -> io::Result<()> {
+    change::nothing(rt, KIND, b"as it stands")?;
+    change::dimension(rt, KIND, b"dimension 4", 4)?;
+    change::length(rt, KIND, b"pressure one short", PRESSURE, 1)?;
+    change::number(rt, KIND, b"stencil of another mesh", STARTS, 8)?;
+    change::number(rt, KIND, b"pressure of another mesh", PRESSURE, 8)?;
+    change::whole(rt, KIND, b"first equation of cell 1 missing", STARTS, 1, 8)
 }

@@ -8,6 +8,7 @@ use crate::entries::{
 };
 use crate::print_answer;
 use mesh::{Answer, Counts};
+use std::io;
 
 // The slice that a kind of call hands out.
 fn output_of(kind: usize) -> usize
@@ -46,6 +47,7 @@ fn call(
 
 // Makes the call, and writes its answer and its output.
 fn show_call(
+    rt: &impl Print,
     kind: usize,
     counts: Counts,
     records: usize,
@@ -54,15 +56,16 @@ fn show_call(
     w: &[usize; WHOLES],
     x: &[f64; FLOATS],
     out: &mut [f64],
-) {
-    if print_answer(call(kind, counts, records, n, m, w, x, out)) {
-        output::print_floats(out);
+) -> io::Result<()> {
+    if print_answer(rt, call(kind, counts, records, n, m, w, x, out))? {
+        output::print_floats(rt, out)
     } else {
-        output::print_left(output::held(out));
+        output::print_left(rt, output::held(out))
     }
 }
 
 pub(crate) fn show(
+    rt: &impl Print,
     kind: usize,
     counts: Counts,
     records: usize,
@@ -70,11 +73,11 @@ pub(crate) fn show(
     m: &[u64; SLICES],
     w: &[usize; WHOLES],
     x: &[f64; FLOATS],
-) {
+) -> io::Result<()> {
     let mut out = [output::fill(); ROOM];
     let k = n[output_of(kind)];
     if k > ROOM {
-        return;
+        return Ok(());
     }
-    show_call(kind, counts, records, n, m, w, x, &mut out[..k]);
+    show_call(rt, kind, counts, records, n, m, w, x, &mut out[..k])
 }

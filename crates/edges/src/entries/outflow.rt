@@ -2,6 +2,7 @@
 use crate::entries::change;
 use crate::entries::slice::{ADJACENCY, FLOATS, FLUX, OUTFLOW, SLICES, WHOLES, float, whole};
 use mesh::{Answer, Counts};
+use std::io;
 
 const KIND: usize = 24;
 
@@ -22,10 +23,10 @@ pub(crate) fn call(
     )
 }
 
-pub(crate) fn cases() {
-    change::nothing(KIND, b"as it stands");
-    change::dimension(KIND, b"dimension 4", 4);
-    change::length(KIND, b"output one short", OUTFLOW, 1);
-    change::number(KIND, b"flux of another mesh", FLUX, 8);
-    change::whole(KIND, b"neighbour of face 0 its owner", ADJACENCY, 1, 1);
+pub(crate) fn cases(rt: &impl Print) -> io::Result<()> {
+    change::nothing(rt, KIND, b"as it stands")?;
+    change::dimension(rt, KIND, b"dimension 4", 4)?;
+    change::length(rt, KIND, b"output one short", OUTFLOW, 1)?;
+    change::number(rt, KIND, b"flux of another mesh", FLUX, 8)?;
+    change::whole(rt, KIND, b"neighbour of face 0 its owner", ADJACENCY, 1, 1)
 }

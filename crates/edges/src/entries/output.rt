@@ -1,5 +1,6 @@
 // What outputs hold before a call, and the part of a case's line that tells what they hold after it.
 use pattern::print;
+use std::io;
 
 // As a float it is no NaN, and no result of a case.
 pub const FILL: usize = 0xa5a5_a5a5_a5a5_a5a5;
@@ -11,22 +12,22 @@ pub(crate) fn fill() -> f64 {
     pattern::value(FILL as u64)
 }
 
-pub(crate) fn print_whole(out: &[usize]) {
-    print::text(b",");
-    print::words(out);
+pub(crate) fn print_whole(rt: &impl Print, out: &[usize]) -> io::Result<()> {
+    print::text(rt, b",")?;
+    print::words(rt, out)
 }
 
-pub(crate) fn print_floats(out: &[f64]) {
-    print::text(b",");
-    print::floats(out);
+pub(crate) fn print_floats(rt: &impl Print, out: &[f64]) -> io::Result<()> {
+    print::text(rt, b",")?;
+    print::floats(rt, out)
 }
 
 // What a refusal left in the outputs: what each holds, by `held` and `held_whole`, joined by `&`.
-pub(crate) fn print_left(left: usize) {
+pub(crate) fn print_left(rt: &impl Print, left: usize) -> io::Result<()> {
     match left {
-        1 => print::text(b", untouched"),
-        2 => print::text(b", cleared"),
-        _ => print::text(b", neither untouched nor cleared"),
+        1 => print::text(rt, b", untouched"),
+        2 => print::text(rt, b", cleared"),
+        _ => print::text(rt, b", neither untouched nor cleared"),
     }
 }
 

@@ -5,6 +5,7 @@ use crate::entries::slice::{
 };
 use crate::entries::{NEAR, change};
 use mesh::{Answer, Counts};
+use std::io;
 
 const KIND: usize = 21;
 
@@ -42,19 +43,19 @@ pub(crate) fn call(
     )
 }
 
-fn within_arithmetic() {
-    change::float(KIND, b"centre distance 2^-26", PLACES, 4, NEAR);
-    change::float(KIND, b"response -1", RESPONSES, 0, -1.0);
-    change::float(KIND, b"area of face 0 1e308", GEOMETRY, 3, 1.0e308);
+fn within_arithmetic(rt: &impl Print) -> io::Result<()> {
+    change::float(rt, KIND, b"centre distance 2^-26", PLACES, 4, NEAR)?;
+    change::float(rt, KIND, b"response -1", RESPONSES, 0, -1.0)?;
+    change::float(rt, KIND, b"area of face 0 1e308", GEOMETRY, 3, 1.0e308)
 }
 
-pub(crate) fn cases() {
-    change::nothing(KIND, b"as it stands");
-    change::dimension(KIND, b"dimension 4", 4);
-    change::length(KIND, b"walls one short", WALLS, 6);
-    change::number(KIND, b"velocity of another mesh", VELOCITY, 8);
-    change::number(KIND, b"stencil of another mesh", STARTS, 8);
-    change::whole(KIND, b"owner of face 3 missing", ADJACENCY, 6, 2);
-    change::whole(KIND, b"first equation of cell 1 missing", STARTS, 1, 8);
-    within_arithmetic();
+pub(crate) fn cases(rt: &impl Print) -> io::Result<()> {
+    change::nothing(rt, KIND, b"as it stands")?;
+    change::dimension(rt, KIND, b"dimension 4", 4)?;
+    change::length(rt, KIND, b"walls one short", WALLS, 6)?;
+    change::number(rt, KIND, b"velocity of another mesh", VELOCITY, 8)?;
+    change::number(rt, KIND, b"stencil of another mesh", STARTS, 8)?;
+    change::whole(rt, KIND, b"owner of face 3 missing", ADJACENCY, 6, 2)?;
+    change::whole(rt, KIND, b"first equation of cell 1 missing", STARTS, 1, 8)?;
+    within_arithmetic(rt)
 }

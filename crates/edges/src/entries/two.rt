@@ -6,6 +6,7 @@ use crate::entries::slice::{FLOATS, SLICES, WHOLES};
 use crate::entries::{metrics, output, prediction, slice};
 use crate::print_answer;
 use mesh::{Answer, Counts};
+use std::io;
 
 fn call(
     kind: usize,
@@ -26,6 +27,7 @@ fn call(
 
 // Makes the call, and writes its answer and its outputs.
 fn show_call(
+    rt: &impl Print,
     kind: usize,
     counts: Counts,
     records: usize,
@@ -35,12 +37,12 @@ fn show_call(
     x: &[f64; FLOATS],
     first: &mut [f64],
     second: &mut [f64],
-) {
-    if print_answer(call(kind, counts, records, n, m, w, x, first, second)) {
-        output::print_floats(first);
-        output::print_floats(second);
+) -> io::Result<()> {
+    if print_answer(rt, call(kind, counts, records, n, m, w, x, first, second))? {
+        output::print_floats(rt, first)?;
+        output::print_floats(rt, second)
     } else {
-        output::print_left(output::held(first) & output::held(second));
+        output::print_left(rt, output::held(first) & output::held(second))
     }
 }
 
@@ -64,6 +66,7 @@ fn second_of(kind: usize) -> usize
 }
 
 pub(crate) fn show(
+    rt: &impl Print,
     kind: usize,
     counts: Counts,
     records: usize,
@@ -71,19 +74,20 @@ pub(crate) fn show(
     m: &[u64; SLICES],
     w: &[usize; WHOLES],
     x: &[f64; FLOATS],
-) {
+) -> io::Result<()> {
     let fill = output::fill();
     let mut first = [fill; ROOM];
     let mut second = [fill; ROOM];
     let i = n[first_of(kind)];
     let j = n[second_of(kind)];
     if i > ROOM {
-        return;
+        return Ok(());
     }
     if j > ROOM {
-        return;
+        return Ok(());
     }
     show_call(
+        rt,
         kind,
         counts,
         records,
@@ -93,5 +97,5 @@ pub(crate) fn show(
         x,
         &mut first[..i],
         &mut second[..j],
-    );
+    )
 }

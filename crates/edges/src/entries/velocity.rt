@@ -2,6 +2,7 @@
 use crate::entries::change;
 use crate::entries::slice::{FLOATS, GRADIENT, RESPONSES, SLICES, VELOCITY, float};
 use mesh::{Answer, Counts};
+use std::io;
 
 const KIND: usize = 23;
 
@@ -24,11 +25,11 @@ pub(crate) fn call(
     )
 }
 
-pub(crate) fn cases() {
-    change::nothing(KIND, b"as it stands");
-    change::dimension(KIND, b"dimension 4", 4);
-    change::length(KIND, b"gradient one short", GRADIENT, 5);
-    change::number(KIND, b"gradient of another mesh", GRADIENT, 8);
-    change::float(KIND, b"response 0", RESPONSES, 1, 0.0);
-    change::float(KIND, b"response 1.7e308", RESPONSES, 1, 1.7e308);
+pub(crate) fn cases(rt: &impl Print) -> io::Result<()> {
+    change::nothing(rt, KIND, b"as it stands")?;
+    change::dimension(rt, KIND, b"dimension 4", 4)?;
+    change::length(rt, KIND, b"gradient one short", GRADIENT, 5)?;
+    change::number(rt, KIND, b"gradient of another mesh", GRADIENT, 8)?;
+    change::float(rt, KIND, b"response 0", RESPONSES, 1, 0.0)?;
+    change::float(rt, KIND, b"response 1.7e308", RESPONSES, 1, 1.7e308)
 }

@@ -8,23 +8,25 @@ use crate::entries::slice::{
 use crate::entries::{NEAR, change, equations, output};
 use crate::print_answer;
 use mesh::{Answer, Counts};
+use std::io;
 
 const KIND: usize = 26;
 
 fn print_fields(
+    rt: &impl Print,
     gradient: &[f64],
     predicted: &[f64],
     coefficients: &[f64],
     flux: &[f64],
     outflow: &[f64],
     metrics: &[f64],
-) {
-    output::print_floats(gradient);
-    output::print_floats(predicted);
-    output::print_floats(coefficients);
-    output::print_floats(flux);
-    output::print_floats(outflow);
-    output::print_floats(metrics);
+) -> io::Result<()> {
+    output::print_floats(rt, gradient)?;
+    output::print_floats(rt, predicted)?;
+    output::print_floats(rt, coefficients)?;
+    output::print_floats(rt, flux)?;
+    output::print_floats(rt, outflow)?;
+    output::print_floats(rt, metrics)
 }
 
 // What the outputs after the stencil hold after a refusal.
@@ -46,6 +48,7 @@ fn left(
 
 // Writes the answer and the outputs, of which equations and weights have i and j numbers.
 fn tell(
+    rt: &impl Print,
     answer: Answer,
     starts: &[usize; 2],
     equations: &[usize; ROOM],
@@ -59,22 +62,32 @@ fn tell(
     flux: &[f64; 7],
     outflow: &[f64; 2],
     metrics: &[f64; 2],
-) {
+) -> io::Result<()> {
     let e = part(equations, 0, i);
     let w = float_part(weights, 0, j);
-    if print_answer(answer) {
-        equations::print(starts, e, w, inverses);
-        print_fields(gradient, predicted, coefficients, flux, outflow, metrics);
+    if print_answer(rt, answer)? {
+        equations::print(rt, starts, e, w, inverses)?;
+        print_fields(
+            rt,
+            gradient,
+            predicted,
+            coefficients,
+            flux,
+            outflow,
+            metrics,
+        )
     } else {
         output::print_left(
+            rt,
             equations::left(starts, e, w, inverses)
                 & left(gradient, predicted, coefficients, flux, outflow, metrics),
-        );
+        )
     }
 }
 
 // Makes the call, with outputs of i equations and j weights; `m` are the mesh numbers.
 fn call(
+    rt: &impl Print,
     counts: Counts,
     adjacency: &[usize],
     geometry: &[f64],
@@ -93,7 +106,7 @@ fn call(
     m: &[u64; SLICES],
     i: usize,
     j: usize,
-) {
+) -> io::Result<()> {
     let fill = output::fill();
     let mut starts = [FILL; 2];
     let mut equations = [FILL; ROOM];
@@ -106,10 +119,10 @@ fn call(
     let mut outflow = [fill; 2];
     let mut metrics = [fill; 2];
     if i > ROOM {
-        return;
+        return Ok(());
     }
     if j > ROOM {
-        return;
+        return Ok(());
     }
     let answer = step::step(
         counts,
@@ -145,6 +158,7 @@ fn call(
         &mut metrics,
     );
     tell(
+        rt,
         answer,
         &starts,
         &equations,
@@ -158,18 +172,20 @@ fn call(
         &flux,
         &outflow,
         &metrics,
-    );
+    )
 }
 
 pub(crate) fn show(
+    rt: &impl Print,
     counts: Counts,
     records: usize,
     n: &[usize; SLICES],
     m: &[u64; SLICES],
     w: &[usize; WHOLES],
     x: &[f64; FLOATS],
-) {
+) -> io::Result<()> {
     call(
+        rt,
         counts,
         whole(w, n, ADJACENCY),
         float(x, n, GEOMETRY),
@@ -188,39 +204,39 @@ pub(crate) fn show(
         m,
         n[EQUATIONS],
         n[WEIGHTS],
-    );
+    )
 }
 
-fn before_arithmetic() {
-    change::dimension(KIND, b"dimension 4", 4);
-    change::length(KIND, b"walls one short", WALLS, 6);
-    change::length(KIND, b"equations one short", EQUATIONS, 13);
-    change::number(KIND, b"pressure of another mesh", PRESSURE, 8);
-    change::whole(KIND, b"owner of face 3 missing", ADJACENCY, 6, 2);
-    change::whole(KIND, b"code 3 at face 4", CODES, 8, 3);
-    change::whole(KIND, b"first neighbour of cell 1 missing", HEADS, 3, 3);
-    change::whole(KIND, b"link of face 4 to face 5", CODES, 9, 6);
+fn before_arithmetic(rt: &impl Print) -> io::Result<()> {
+    change::dimension(rt, KIND, b"dimension 4", 4)?;
+    change::length(rt, KIND, b"walls one short", WALLS, 6)?;
+    change::length(rt, KIND, b"equations one short", EQUATIONS, 13)?;
+    change::number(rt, KIND, b"pressure of another mesh", PRESSURE, 8)?;
+    change::whole(rt, KIND, b"owner of face 3 missing", ADJACENCY, 6, 2)?;
+    change::whole(rt, KIND, b"code 3 at face 4", CODES, 8, 3)?;
+    change::whole(rt, KIND, b"first neighbour of cell 1 missing", HEADS, 3, 3)?;
+    change::whole(rt, KIND, b"link of face 4 to face 5", CODES, 9, 6)
 }
 
-fn of_the_stencil() {
-    change::records(KIND, b"room for 5 records", 5);
-    change::float(KIND, b"centre distance 2^-26", PLACES, 4, NEAR);
-    change::whole(KIND, b"no faces of cell 0 but 0 and 1", FACING, 3, 0);
-    change::whole(KIND, b"no condition at face 3", CODES, 6, 0);
+fn of_the_stencil(rt: &impl Print) -> io::Result<()> {
+    change::records(rt, KIND, b"room for 5 records", 5)?;
+    change::float(rt, KIND, b"centre distance 2^-26", PLACES, 4, NEAR)?;
+    change::whole(rt, KIND, b"no faces of cell 0 but 0 and 1", FACING, 3, 0)?;
+    change::whole(rt, KIND, b"no condition at face 3", CODES, 6, 0)
 }
 
-fn after_the_stencil() {
-    change::float(KIND, b"response -1", RESPONSES, 0, -1.0);
-    change::float(KIND, b"area of face 0 1e308", GEOMETRY, 3, 1.0e308);
-    change::float(KIND, b"area of face 6 0", GEOMETRY, 58, 0.0);
-    change::float(KIND, b"area of face 3 1e308", GEOMETRY, 31, -1.0e308);
-    change::float(KIND, b"wall flux of face 4 1.7e308", WALLS, 4, 1.7e308);
-    change::float(KIND, b"volume of cell 1 0", PLACES, 7, 0.0);
+fn after_the_stencil(rt: &impl Print) -> io::Result<()> {
+    change::float(rt, KIND, b"response -1", RESPONSES, 0, -1.0)?;
+    change::float(rt, KIND, b"area of face 0 1e308", GEOMETRY, 3, 1.0e308)?;
+    change::float(rt, KIND, b"area of face 6 0", GEOMETRY, 58, 0.0)?;
+    change::float(rt, KIND, b"area of face 3 1e308", GEOMETRY, 31, -1.0e308)?;
+    change::float(rt, KIND, b"wall flux of face 4 1.7e308", WALLS, 4, 1.7e308)?;
+    change::float(rt, KIND, b"volume of cell 1 0", PLACES, 7, 0.0)
 }
 
-pub(crate) fn cases() {
-    change::nothing(KIND, b"as it stands");
-    before_arithmetic();
-    of_the_stencil();
-    after_the_stencil();
+pub(crate) fn cases(rt: &impl Print) -> io::Result<()> {
+    change::nothing(rt, KIND, b"as it stands")?;
+    before_arithmetic(rt)?;
+    of_the_stencil(rt)?;
+    after_the_stencil(rt)
 }

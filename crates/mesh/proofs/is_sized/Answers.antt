@@ -1,4 +1,3 @@
--- `mesh::is_sized` meets its contract: a length is a product where the quotient is one factor and nothing remains.
 use mathlib.Core.Path.{◌≡◌, refl, sym, ◌∙◌, ap}
 use mathlib.Core.Bool.{Bool, true, false, ◌&&◌}
 use Prim.Native.Nat.{ℕ, ◌+◌, ◌*◌, ◌/◌, ◌%◌, ◌<◌}
@@ -7,8 +6,7 @@ use native.Mathlib.Omega.{arith}
 use lib.Dec.{eqb}
 use borrow.Author.Tests.{eq-eqb, ne_eqb, eqb-true, eqb-false}
 use borrow.Author.Rules.{rules}
-use Rattle.mesh.proofs.is_sized.Statement.{statement}
-use Rattle.mesh.proofs.is_sized.Tie as tie
+use Rattle.mesh.proofs.is_sized.Goals as goal
 
 by_division : (len width count : ℕ) → 0 < width → (eqb (len / width) count && eqb (len % width) 0) ≡ eqb len (width * count)
 by_division len width count w = go (eqb (len / width) count) (eqb (len % width) 0) refl refl
@@ -24,17 +22,8 @@ by_division len width count w = go (eqb (len / width) count) (eqb (len % width) 
     go true false p q = sym (ne_eqb _ _ (λ e. eqb-false _ _ q (ap (λ (n : ℕ). n % width) e ∙ mul-mod_right width count)))
     go false b p q = sym (ne_eqb _ _ (λ e. eqb-false _ _ p (ap (λ (n : ℕ). n / width) (e ∙ mul_comm width count) ∙ mul-div_cancel count w)))
 
-returns : tie.Need-returns
-returns c = rw (c.if1.true, zero-mul)
+pub returns-then-width-eq0 : goal.returns-then-width-eq0
+returns-then-width-eq0 c = rw (c.if-width-eq0.true, zero-mul)
 
-div-result : tie.Need-nonzero-div-result
-div-result c = search rules
-
-rem-result : tie.Need-nonzero-rem-result
-rem-result c = search rules
-
-returns-2 : tie.Need-returns-2
-returns-2 c = by_division c.before.args.len c.before.args.width c.before.args.count (omega (arith, c.if1.false))
-
-pub is_sized_spec : {M : Type 1} → statement M
-is_sized_spec = tie.close (tie.spec returns div-result rem-result returns-2)
+pub returns : goal.returns
+returns c = by_division c.args.len c.args.width c.args.count (omega (arith, c.if-width-eq0.false))

@@ -30,9 +30,9 @@ pub never_accepted : (k i : ℕ) → Refused k i ≡ Accepted → ⊥
 never_accepted k i e = let z : ◌≡◌ {A = ℕ} 0 1 = cc in absurd (omega arith)
 
 -- what is handed out, where the answer is known to accept
-pub handed_out : (a : Answer) (n : ℕ) (l : List Float) → a ≡ Accepted → handed_out a n l ≡ l
+pub handed_out_lem : (a : Answer) (n : ℕ) (l : List Float) → a ≡ Accepted → handed_out a n l ≡ l
 unfolding handed_out
-handed_out a n l e = rw e
+handed_out_lem a n l e = rw e
 
 -- what a pass that answers a, and leaves `new`, hands out once it is settled
 pub settled : (a : Answer) (l : List Float) (n : ℕ) (b r : Answer) (new out : List Float) → Passes a l b new → length new ≡ n → r ≡ b → out ≡ handed_out b (length new) new → (r ≡ a) × (out ≡ handed_out r n l)

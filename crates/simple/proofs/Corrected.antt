@@ -10,7 +10,7 @@ use Rattle.mesh.specs.Mesh.{Conditions}
 use Rattle.mesh.specs.declared.Answer.{Answer}
 use Rattle.mesh.specs.declared.Answer.TheVariants.{Accepted, Refused}
 use Rattle.mesh.specs.declared.Counts.{Counts}
-use Rattle.passes.proofs.Stages.{handed_out, never_accepted}
+use Rattle.passes.proofs.Stages.{handed_out_lem, never_accepted}
 use Rattle.corrector.specs.Correction.{Correcting, correction_answer, corrected_fluxes}
 use Rattle.corrector.specs.Promise.{Promise, boundary_of}
 use Rattle.corrector.proofs.Promised.{promised}
@@ -27,7 +27,7 @@ module _ (n : Counts) (adjacency : List ℕ) (k : Conditions) (l : Fields) (old 
       let a = sym is ∙ passed in
       let p = correction_passed n adjacency k l (length old) checked is passed in (
         record { answer = rw a e; out = rw a (o ∙ ap (λ (i : ℕ). handed_out r i (corrected_fluxes lent)) p.2) },
-        λ ok. subst (Promise (boundary_of lent)) (sym (o ∙ handed_out _ _ _ ok)) (promised lent p.0 (sym e ∙ ok)),
+        λ ok. subst (Promise (boundary_of lent)) (sym (o ∙ handed_out_lem _ _ _ ok)) (promised lent p.0 (sym e ∙ ok)),
       )
 
   pub after_refusal : (j i : ℕ) → checked ≡ Refused j i → CorrectionCall n adjacency k l old (Refused j i) old × Promised (Refused j i) adjacency k l old

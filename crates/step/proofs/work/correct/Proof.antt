@@ -1,5 +1,5 @@
 -- `step::work::correct` meets its contract: the coefficients, and the fluxes by them.
-use Rattle.passes.proofs.Stages.{handed_out, never_accepted}
+use Rattle.passes.proofs.Stages.{handed_out_lem, never_accepted}
 use Rattle.scheme.proofs.Parts.{with_coefficients}
 use Rattle.corrector.specs.Correction.{Correcting, correcting, correction_answer, corrected_fluxes}
 use Rattle.mesh.specs.Answers.{or_else}
@@ -47,7 +47,7 @@ returns c =
     let y = f.correct-face-flux.ensures in
     let out = x.1 e.enum_told.given.1 in (
       rw (sym x.0 ∙ e.enum_told.given.1) (y.0 ∙ ap (λ (k : List Float). correction_answer (with s k)) out),
-      λ ok. (out, y.1 ∙ handed_out _ _ _ ok ∙ ap (λ (k : List Float). corrected_fluxes (with s k)) out),
+      λ ok. (out, y.1 ∙ handed_out_lem _ _ _ ok ∙ ap (λ (k : List Float). corrected_fluxes (with s k)) out),
     )
 
 same-length-3 : tie.Need-same-length-3

@@ -1,5 +1,5 @@
 -- `step::work::measure` meets its contract: the metrics, and after them the test of every outflow.
-use Rattle.passes.proofs.Stages.{handed_out, never_accepted}
+use Rattle.passes.proofs.Stages.{handed_out_lem, never_accepted}
 use Rattle.scheme.specs.Step.{finite_answer}
 use Rattle.mesh.specs.Answers.{or_else}
 use mathlib.Core.Path.{◌≡◌, sym, ◌∙◌, ap}
@@ -32,7 +32,7 @@ returns c =
     let e : tie.After-enum-told = search in
     let f : tie.After-finite-outflows = search in
     let x = m.continuity-metrics.ensures in
-    let out = x.1.0 ∙ handed_out _ _ _ e.enum_told.given.1 in
+    let out = x.1.0 ∙ handed_out_lem _ _ _ e.enum_told.given.1 in
     (rw (sym x.0 ∙ e.enum_told.given.1) (f.finite-outflows.ensures ∙ ap finite_answer out), λ _. (out, x.1.1))
 
 same-length-3 : tie.Need-same-length-3

@@ -1,5 +1,5 @@
 -- `step::work::predict` meets its contract: the stencil, and the flux predicted by it.
-use Rattle.passes.proofs.Stages.{handed_out, never_accepted}
+use Rattle.passes.proofs.Stages.{handed_out_lem, never_accepted}
 use Rattle.scheme.proofs.Parts.{begun, sloped}
 use Rattle.coupling.specs.Grid.{Grid, grid}
 use Rattle.predictor.specs.Prediction.{Flow, flow, prediction_answer, predicted_fluxes}
@@ -94,7 +94,7 @@ returns c =
       (
         λ _. t,
         (
-          λ ok. (y.1.0 ∙ handed_out _ _ _ ok ∙ ap (slopesBy s) t, y.1.1.0 ∙ handed_out _ _ _ ok ∙ ap (λ (t : Slices). predicted_fluxes (gridAt s) (flow_by s t) walls) t),
+          λ ok. (y.1.0 ∙ handed_out_lem _ _ _ ok ∙ ap (slopesBy s) t, y.1.1.0 ∙ handed_out_lem _ _ _ ok ∙ ap (λ (t : Slices). predicted_fluxes (gridAt s) (flow_by s t) walls) t),
           λ ok. begun (gridAt s) _ walls _ (sym y.0 ∙ ok) (f.rhie-chow-predicted-flux.kept.1.1.1.1.1.1.1.1.1.1.1.1.0 ∙ s.pre.1.1.1.2) (y.1.1.1 s.pre.1.1.1.2 ok),
         ),
       ),

@@ -1,0 +1,12 @@
+use Rattle.passes.specs.Staged.{late_after}
+use Rattle.mesh.specs.Pass.{after}
+use borrow.Author.Rules.{rules}
+use Rattle.passes.proofs.first_late.Goals as goal
+
+pub returns-in-Accepted : goal.returns-in-Accepted
+unfolding late_after after
+returns-in-Accepted c = rw c.in-Accepted.is
+
+pub returns-in-Refused : goal.returns-in-Refused
+unfolding late_after after
+returns-in-Refused c = rw c.in-Refused.is

@@ -1,0 +1,15 @@
+use Rattle.passes.specs.Staged.{is_late}
+use borrow.Author.Rules.{rules}
+use Rattle.passes.proofs.is_late.Goals as goal
+
+pub returns-in-Kept : goal.returns-in-Kept
+unfolding is_late
+returns-in-Kept c = rw c.in-Kept.is
+
+pub returns-in-Early : goal.returns-in-Early
+unfolding is_late
+returns-in-Early c = rw c.in-Early.is
+
+pub returns-in-Late : goal.returns-in-Late
+unfolding is_late
+returns-in-Late c = rw c.in-Late.is

@@ -1,0 +1,8 @@
+use Rattle.coupling.specs.Face.{projected}
+use borrow.Author.Rules.{rules}
+use Rattle.coupling.proofs.projected.Goals as goal
+
+pub returns : goal.returns
+unfolding projected
+returns c =
+    rw (← c.dot.ensures, ← c.norm_squared.ensures)

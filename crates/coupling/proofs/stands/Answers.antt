@@ -1,0 +1,8 @@
+use Rattle.coupling.specs.Cell.{stands}
+use borrow.Author.Rules.{rules}
+use Rattle.coupling.proofs.stands.Goals as goal
+
+pub returns : goal.returns
+unfolding stands
+returns c =
+    rw (c.usable.ensures, c.finite.ensures, c.finite-2.ensures, c.finite-3.ensures)

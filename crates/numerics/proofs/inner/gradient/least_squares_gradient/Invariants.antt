@@ -1,0 +1,16 @@
+use mathlib.Core.Path.{sym, ◌∙◌, subst}
+use mathlib.Core.List.{List}
+use Prim.Native.Nat.{◌+◌, ◌-◌}
+use native.Mathlib.Omega.{arith}
+use lib.ListN.{length}
+use lib.Ieee.{Float}
+use Rattle.vector.proofs.Vectors.{Written, start, more, finish}
+use Rattle.numerics.specs.Slices.{slices}
+use Rattle.numerics.specs.Gradient.{gradient_at, gradients}
+use Rattle.numerics.proofs.inner.gradient.least_squares_gradient.Given as goal
+
+abbrev pub invariant-loop-c : goal.invariant-loop-c
+invariant-loop-c l = Written (gradient_at (slices l.starts l.equations l.weights l.inverses) l.records l.field) (length l.field) l.out l.c
+
+abbrev pub decreases-loop-c : goal.decreases-loop-c
+decreases-loop-c l = length l.field - l.c

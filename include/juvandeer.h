@@ -1,5 +1,5 @@
 /* The functions of Juvandeer for C99, C11 and C++; link them from target/staticlib/libcapi.a, which
- * `rt staticlib capi` makes for x86-64.
+ * `tools/archive` makes for x86-64.
  *
  * What is asked of a caller, and nothing else:
  *

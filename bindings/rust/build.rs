@@ -1,4 +1,4 @@
-//! Links libcapi.a from the folder that JUVANDEER_LIB names, or else from where `rt staticlib capi` leaves it.
+//! Links libcapi.a from the folder that JUVANDEER_LIB names, or else from where `tools/archive` leaves it.
 
 use std::env;
 use std::path::PathBuf;
@@ -10,7 +10,7 @@ fn main() {
     let library = folder.join("libcapi.a");
     if !library.is_file() {
         println!(
-            "cargo:warning=no libcapi.a in {}: build it with `rt staticlib capi`, or name its folder in JUVANDEER_LIB",
+            "cargo:warning=no libcapi.a in {}: build it with `tools/archive`, or name its folder in JUVANDEER_LIB",
             folder.display()
         );
     }

@@ -11,14 +11,14 @@ ghost use Rattle.numerics.specs.Slices.{slices_before, slices_after};
 ghost use Rattle.numerics.specs.Gradient.{GradientCall};
 ghost use Rattle.numerics.specs.Outflow.{OutflowCall, Scattered};
 ghost use Rattle.stencil.specs.Checks.{StencilCall};
-ghost use Rattle.coupling.specs.Grid.{grid_lent, field_lent};
+ghost use Rattle.coupling.specs.Grid.{grid_lent, field, field_lent};
 ghost use Rattle.predictor.specs.Boundary.{BoundaryCall};
 ghost use Rattle.predictor.specs.Coefficients.{CoefficientCall};
 ghost use Rattle.predictor.specs.Prediction.{flow_fields_lent, PredictionCall};
 ghost use Rattle.corrector.specs.Diagonal.{DiagonalCall};
 ghost use Rattle.corrector.specs.Metrics.{MetricsCall};
 ghost use Rattle.corrector.specs.Velocity.{VelocityCall};
-ghost use Rattle.simple.specs.Corrected.{fields_lent, CorrectionCall, Promised};
+ghost use Rattle.simple.specs.Corrected.{fields, fields_lent, CorrectionCall, Promised};
 ghost use Rattle.sentence.specs.Sentence.{SentenceCall};
 ghost use Rattle.scheme.specs.Demand.{Demanded};
 ghost use Rattle.step.specs.Call.{StepCall};
@@ -307,7 +307,7 @@ pub extern "C" fn juvandeer_correct_face_flux_in_place(
     index: &mut usize,
 ) -> u64
     ensures told { let k = conditions_lent number codes values in
-        let l = fields_lent prediction flux coefficient coefficients correction corrections in
+        let l = fields (field prediction flux.old) (field_lent coefficient coefficients) (field_lent correction corrections) in
         let call : Answer → Type 0 = λ a. CorrectionCall counts adjacency.now k l flux.old a flux.new in
         let promise : Answer → Type 0 = λ a. Promised a adjacency.now k l flux.new in
         Told (λ (a : Answer). call a × promise a) result index.new }

@@ -12,9 +12,9 @@ ghost use Rattle.chain.specs.declared.walk.Form.TheVariants.{Single};
 ghost use Rattle.numerics.specs.Slices.{slices_before, from_cell};
 ghost use Rattle.predictor.specs.Boundary.{boundary_checks, BoundaryCall};
 ghost use Rattle.predictor.specs.Coefficients.{coefficient_checks, CoefficientCall};
-ghost use Rattle.simple.specs.Corrected.{fields_lent, correction_checks, CorrectionCall, Promised};
+ghost use Rattle.simple.specs.Corrected.{fields, fields_lent, correction_checks, CorrectionCall, Promised};
 ghost use Rattle.corrector.specs.Diagonal.{diagonal_checks, DiagonalCall};
-ghost use Rattle.coupling.specs.Grid.{grid_lent, field_lent, grid_sized};
+ghost use Rattle.coupling.specs.Grid.{grid_lent, field, field_lent, grid_sized};
 ghost use Rattle.corrector.specs.Metrics.{metrics_checks, MetricsCall};
 ghost use Rattle.predictor.specs.Prediction.{flow_fields_lent, sizes, flow_sized, prediction_checks, PredictionCall};
 ghost use Rattle.corrector.specs.Velocity.{velocity_checks, VelocityCall};
@@ -433,7 +433,7 @@ pub fn correct_face_flux_in_place(
     flux: &mut [f64],
 ) -> Answer
     ensures corrects { let k = conditions_lent number codes values in
-        let l = fields_lent prediction flux coefficient coefficients correction corrections in
+        let l = fields (field prediction flux.old) (field_lent coefficient coefficients) (field_lent correction corrections) in
         let call = CorrectionCall counts adjacency.now k l flux.old result flux.new in
         let promise = Promised result adjacency.now k l flux.new in
         call × promise }

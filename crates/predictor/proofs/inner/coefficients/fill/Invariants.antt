@@ -1,0 +1,16 @@
+use Rattle.coupling.specs.Grid.{grid, Coupled}
+use Rattle.predictor.specs.Coefficients.{internal_at}
+use Rattle.mesh.specs.declared.Outcome.{Outcome}
+use Rattle.mesh.proofs.Pass.{Passed, start, more, finish, stop}
+use lib.ListN.{length}
+use native.Mathlib.Omega.{arith}
+use Prim.Native.Nat.{ℕ, ◌-◌}
+use mathlib.Core.Path.{◌≡◌, refl, sym, ◌∙◌, subst}
+use borrow.Author.Rules.{rules}
+use Rattle.predictor.proofs.inner.coefficients.fill.Given as goal
+
+abbrev pub invariant-loop-f : goal.invariant-loop-f
+invariant-loop-f l = Passed (internal_at (grid l.adjacency l.geometry l.places) l.responses) (length l.initial.out) l.out l.f
+
+abbrev pub decreases-loop-f : goal.decreases-loop-f
+decreases-loop-f l = length l.initial.out - l.f

@@ -1,0 +1,6 @@
+use borrow.Author.Rules.{rules}
+use Rattle.predictor.proofs.inner.coefficients.span_to.Goals as goal
+
+pub returns : goal.returns
+returns c =
+    rw c.cell_at-cell.ensures

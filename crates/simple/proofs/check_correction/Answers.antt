@@ -1,0 +1,19 @@
+use Rattle.simple.specs.Corrected.{correction_checks}
+use Rattle.mesh.specs.Answers.{or_else}
+use Rattle.mesh.proofs.Facts.{shape_first}
+use borrow.Author.Rules.{rules}
+use Rattle.simple.proofs.check_correction.Goals as goal
+
+pub returns-in-Accepted : goal.returns-in-Accepted
+unfolding correction_checks or_else
+returns-in-Accepted c =
+    record {
+      checked = rw (shape_first _ _ _ _, ← c.sizes_ok.ensures, ← c.conditions_sized.ensures, ← c.is_sized.ensures, ← c.shape-a.ensures, c.in-Accepted.is) c.check_links.ensures;
+    }
+
+pub returns-in-Refused : goal.returns-in-Refused
+unfolding correction_checks or_else
+returns-in-Refused c =
+    record {
+      checked = rw (shape_first _ _ _ _, ← c.sizes_ok.ensures, ← c.conditions_sized.ensures, ← c.is_sized.ensures, ← c.shape-a.ensures, c.in-Refused.is);
+    }

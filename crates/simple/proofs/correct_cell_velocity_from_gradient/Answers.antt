@@ -1,0 +1,30 @@
+use Rattle.simple.proofs.Checked.{velocity_passed}
+use Rattle.coupling.specs.Grid.{field}
+use Rattle.mesh.specs.Pass.{if_refused}
+use Rattle.mesh.specs.Answers.{or_else}
+use lib.ListN.{length}
+use mathlib.Core.Path.{◌≡◌, sym, ◌∙◌}
+use borrow.Author.Rules.{rules}
+use Rattle.simple.proofs.correct_cell_velocity_from_gradient.Goals as goal
+
+pub correct_cell_velocity_from_gradient-requires : goal.correct_cell_velocity_from_gradient-requires
+correct_cell_velocity_from_gradient-requires c =
+    record {
+      lent = velocity_passed c.args.counts (field c.args.velocity c.args.velocities.now) (field c.args.response c.args.responses.now) (field c.args.gradient c.args.gradients.now) (length c.args.out.now) (sym c.check_velocity-a.ensures.checked ∙ c.in-Accepted.is);
+    }
+
+pub returns-in-Accepted : goal.returns-in-Accepted
+unfolding or_else if_refused
+returns-in-Accepted c =
+    let a = sym c.check_velocity-a.ensures.checked ∙ c.in-Accepted.is in
+    record {
+      call = record { answer = rw a c.correct_cell_velocity_from_gradient.ensures.value; out = rw a c.correct_cell_velocity_from_gradient.ensures.contents };
+    }
+
+pub returns-in-Refused : goal.returns-in-Refused
+unfolding or_else if_refused
+returns-in-Refused c =
+    let a = sym c.check_velocity-a.ensures.checked ∙ c.in-Refused.is in
+    record {
+      call = record { answer = rw a; out = rw a };
+    }

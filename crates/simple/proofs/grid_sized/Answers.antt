@@ -1,0 +1,6 @@
+use borrow.Author.Rules.{rules}
+use Rattle.simple.proofs.grid_sized.Goals as goal
+
+pub returns : goal.returns
+returns c =
+    rw (c.is_sized.ensures, c.is_sized-2.ensures, c.is_sized-3.ensures)

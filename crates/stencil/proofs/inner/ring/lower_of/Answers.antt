@@ -1,6 +1,3 @@
-use borrow.Author.Tests.{le-leb, lt-leb, lt-ltb, le-ltb, eq-eqb, ne_eqb}
-use borrow.Author.Rules.{rules}
-use Rattle.stencil.specs.Ring.{lower_fresh, fresh}
 use Rattle.stencil.proofs.inner.ring.lower_of.Goals as goal
 
 pub contains-requires : goal.contains-requires
@@ -9,4 +6,3 @@ contains-requires c =
       chain_len = c.requires.web.bordering_size;
       chain = rw c.second_of-first.ensures (c.requires.web.ended c.args.c c.requires.c_lt_cells);
     }
-

@@ -1,6 +1,5 @@
-use mathlib.Core.Path.{◌≡◌, refl, sym}
+use mathlib.Core.Path.{refl}
 use Rattle.degree.proofs.Chained.{none_broken, none_long}
-use borrow.Author.Rules.{rules}
 use Rattle.degree.proofs.search.Goals as goal
 
 pub returns-then-heads_within_facing : goal.returns-then-heads_within_facing

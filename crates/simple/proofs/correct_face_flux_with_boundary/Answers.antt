@@ -1,10 +1,9 @@
 use Rattle.simple.proofs.Checked.{correction_passed}
 use Rattle.simple.proofs.Corrected.{after_work, after_refusal}
 use Rattle.coupling.specs.Grid.{field}
-use Rattle.simple.specs.Corrected.{Fields, fields}
-use Rattle.mesh.specs.Mesh.{Conditions, conditions}
+use Rattle.simple.specs.Corrected.{fields}
+use Rattle.mesh.specs.Mesh.{conditions}
 use lib.ListN.{length}
-use borrow.Author.Rules.{rules}
 use Rattle.simple.proofs.correct_face_flux_with_boundary.Goals as goal
 
 pub correct_face_flux-requires : goal.correct_face_flux-requires

@@ -1,5 +1,4 @@
 use Rattle.step.proofs.Passed.{checked_by, refused_by}
-use borrow.Author.Rules.{rules}
 use Rattle.step.proofs.check_step.Goals as goal
 
 pub returns-in-Accepted : goal.returns-in-Accepted

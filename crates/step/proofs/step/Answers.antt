@@ -3,13 +3,12 @@ use Rattle.step.proofs.Passed.{passed, refused_first, same_work, ready_numbered}
 use Rattle.passes.proofs.Stages.{never_accepted}
 use Rattle.coupling.specs.Grid.{field}
 use Rattle.numerics.specs.Slices.{slices}
-use Rattle.step.specs.Call.{Handed, handed, OutputsFit}
-use Rattle.scheme.specs.Step.{Inputs, inputs, Lendable}
+use Rattle.step.specs.Call.{handed}
+use Rattle.scheme.specs.Step.{inputs}
 use Rattle.mesh.specs.Answers.{or_else}
 use Rattle.mesh.specs.Mesh.{mesh, conditions}
 use Rattle.mesh.specs.Pass.{if_refused}
-use mathlib.Core.Path.{◌≡◌, sym, ◌∙◌}
-use borrow.Author.Rules.{rules}
+use mathlib.Core.Path.{sym, ◌∙◌}
 use Rattle.step.proofs.step.Goals as goal
 
 pub carry_out-requires : goal.carry_out-requires

@@ -1,4 +1,4 @@
-use Rattle.std.proofs.Common.{◌≡◌, ℕ, ◌+◌, ◌-◌, ◌*◌, ◌/◌, ◌%◌, ◌^◌, ◌<◌, ◌≤◌, ltb, leb, sym, refl, ap, ◌∙◌, subst, inl, inr, arith, ltb→lt, leb→le, nltb→le, rules}
+use Rattle.std.proofs.Common.{◌≡◌, ◌+◌, ◌-◌, ◌*◌, ◌/◌, ◌%◌, ◌^◌, ◌≤◌, ltb, leb, refl, inl, inr, arith, ltb→lt, leb→le, nltb→le}
 use lib.Dec.{nleb→lt}
 use Rattle.binary64.proofs.root.Squares.{small_product, apart, chosen}
 use Rattle.binary64.proofs.root.corrected.Goals as goal

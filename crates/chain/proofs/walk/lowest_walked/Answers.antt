@@ -1,16 +1,13 @@
-use mathlib.Core.Path.{◌≡◌, refl, sym, ◌∙◌, ap}
-use mathlib.Core.Bool.{Bool, true, not}
-use mathlib.Core.Logic.{⊎_elim}
-use mathlib.Core.List.{List}
-use Prim.Native.Nat.{ℕ, ◌-◌, ◌/◌}
+use mathlib.Core.Path.{◌≡◌, sym, ◌∙◌, ap}
+use mathlib.Core.Bool.{true, not}
+use Prim.Native.Nat.{◌/◌}
 use native.Mathlib.Omega.{arith}
 use lib.ListN.{length}
-use Rattle.chain.specs.declared.Found.TheVariants.{At, Nothing}
+use Rattle.chain.specs.declared.Found.TheVariants.{At}
 use Rattle.chain.specs.Search.{lowest_where}
-use Rattle.chain.specs.Chains.{step_of, ends, head_at, cell_count, broken_cell}
-use Rattle.chain.proofs.Search.{Searched, start, more, found, nothing}
+use Rattle.chain.specs.Chains.{cell_count, broken_cell}
+use Rattle.chain.proofs.Search.{start, more, found, nothing}
 use Rattle.chain.proofs.Chains.{ended, no_end, breaks, goes_on}
-use borrow.Author.Rules.{rules}
 use Rattle.chain.proofs.walk.lowest_walked.Goals as goal
 use Rattle.chain.proofs.walk.lowest_walked.Goals.{else-cells-test, then-cells-test+then-loop-r-test+then-left-eq0, then-cells-test+then-loop-r-test+else-left-eq0+in-Broken}
 

@@ -1,8 +1,5 @@
-use mathlib.Core.Path.{sym}
-use native.Mathlib.Omega.{arith}
 use borrow.Author.Tests.{eq-eqb, ne_eqb}
 use Rattle.degree.specs.Counts.{with_face}
-use borrow.Author.Rules.{rules}
 use Rattle.degree.proofs.count.add_face.Goals as goal
 
 pub returns-then-neighbour-owner : goal.returns-then-neighbour-owner

@@ -1,7 +1,5 @@
 use mathlib.Core.Path.{sym}
-use native.Mathlib.Omega.{arith}
 use lib.Seq.{set_out}
-use borrow.Author.Rules.{rules}
 use Rattle.degree.proofs.count.bump.Goals as goal
 
 pub returns-then-cell-named : goal.returns-then-cell-named

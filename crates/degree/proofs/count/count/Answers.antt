@@ -1,11 +1,10 @@
-use mathlib.Core.Path.{◌≡◌, refl, sym, ◌∙◌, ap}
-use Prim.Native.Nat.{ℕ, ◌-◌, ◌/◌, ◌≤◌}
+use mathlib.Core.Path.{refl, ◌∙◌, ap}
 use native.Mathlib.Omega.{arith}
 use native.Mathlib.Numerals.{add-one}
 use native.Mathlib.Nat.{le_antisymm}
 use lib.ListN.{length}
-use Rattle.degree.specs.Counts.{counted, with_face}
-use Rattle.degree.proofs.Counting.{length_face, length-counted}
+use Rattle.degree.specs.Counts.{counted}
+use Rattle.degree.proofs.Counting.{length_face}
 use Rattle.degree.proofs.count.count.Goals as goal
 
 pub loop-f-init : goal.loop-f-init

@@ -1,11 +1,7 @@
-use mathlib.Core.Path.{◌≡◌, refl, sym, ◌∙◌, ap}
-use Prim.Native.Nat.{ℕ, ◌-◌, ◌/◌, ◌≤◌}
-use native.Mathlib.Omega.{arith}
-use native.Mathlib.Numerals.{add-one}
-use native.Mathlib.Nat.{le_antisymm}
+use mathlib.Core.Path.{◌≡◌}
+use Prim.Native.Nat.{◌-◌, ◌/◌, ◌≤◌}
 use lib.ListN.{length}
-use Rattle.degree.specs.Counts.{counted, with_face}
-use Rattle.degree.proofs.Counting.{length_face, length-counted}
+use Rattle.degree.specs.Counts.{counted}
 use Rattle.degree.proofs.count.count.Given as goal
 
 abbrev pub invariant-loop-f : goal.invariant-loop-f

@@ -1,14 +1,13 @@
-use mathlib.Core.Path.{◌≡◌, sym, ◌∙◌, ap}
+use mathlib.Core.Path.{sym, ◌∙◌, ap}
 use mathlib.Core.List.{List}
-use Prim.Native.Nat.{ℕ, ◌-◌, ◌/◌}
+use Prim.Native.Nat.{ℕ, ◌/◌}
 use native.Mathlib.Omega.{arith}
 use borrow.Author.Tests.{lt-ltb, le-ltb}
-use lib.ListN.{length, replicate}
-use Rattle.chain.proofs.Search.{Searched, start, more, found, nothing}
+use lib.ListN.{length}
+use Rattle.chain.proofs.Search.{start, more, found, nothing}
 use Rattle.degree.specs.Degree.{crowded}
 use Rattle.degree.specs.Counts.{counted}
 use Rattle.degree.proofs.Counting.{tested, length-counted}
-use borrow.Author.Rules.{rules}
 use Rattle.degree.proofs.count.lowest_in.Goals as goal
 
 pub loop-c-init : goal.loop-c-init

@@ -1,7 +1,6 @@
 use mathlib.Core.Path.{sym}
 use native.Mathlib.Omega.{arith}
 use Rattle.degree.proofs.Counting.{capped_small, capped_large}
-use borrow.Author.Rules.{rules}
 use Rattle.degree.proofs.count.one_more.Goals as goal
 
 pub returns-then-n-lt27 : goal.returns-then-n-lt27

@@ -1,11 +1,8 @@
-use mathlib.Core.Path.{◌≡◌, sym, ◌∙◌}
-use mathlib.Core.Bool.{true, false≢true}
-use Prim.Native.Nat.{ℕ, ◌-◌, ◌/◌}
+use mathlib.Core.Path.{sym, ◌∙◌}
+use mathlib.Core.Bool.{false≢true}
 use native.Mathlib.Omega.{arith}
 use borrow.Author.Tests.{eqb-true}
-use lib.ListN.{length}
-use Rattle.degree.proofs.Chained.{Runs, start, more, finish}
-use borrow.Author.Rules.{rules}
+use Rattle.degree.proofs.Chained.{start, more, finish}
 use Rattle.degree.proofs.length.all_short.Goals as goal
 
 pub loop-i-init : goal.loop-i-init

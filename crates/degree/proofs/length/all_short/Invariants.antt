@@ -1,11 +1,5 @@
-use mathlib.Core.Path.{◌≡◌, sym, ◌∙◌}
-use mathlib.Core.Bool.{true, false≢true}
-use Prim.Native.Nat.{ℕ, ◌-◌, ◌/◌}
-use native.Mathlib.Omega.{arith}
-use borrow.Author.Tests.{eqb-true}
-use lib.ListN.{length}
-use Rattle.degree.proofs.Chained.{Runs, start, more, finish}
-use borrow.Author.Rules.{rules}
+use Prim.Native.Nat.{◌-◌}
+use Rattle.degree.proofs.Chained.{Runs}
 use Rattle.degree.proofs.length.all_short.Given as goal
 
 abbrev pub invariant-loop-i : goal.invariant-loop-i

@@ -1,6 +1,5 @@
 use borrow.Author.Tests.{lt-ltb, le-ltb, eq-eqb, ne_eqb}
 use Rattle.degree.specs.Counts.{begin_after}
-use borrow.Author.Rules.{rules}
 use Rattle.degree.proofs.length.begin_after.Goals as goal
 
 pub returns-then-limit-first_of : goal.returns-then-limit-first_of

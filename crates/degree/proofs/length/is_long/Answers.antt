@@ -1,14 +1,9 @@
-use mathlib.Core.Path.{◌≡◌, sym, ◌∙◌}
-use Prim.Native.Nat.{ℕ, ◌-◌, ◌/◌, ◌<◌}
+use mathlib.Core.Path.{sym}
 use native.Mathlib.Omega.{arith}
 use native.Mathlib.Nat.{le_trans}
 use borrow.Author.Tests.{le-ltb}
-use lib.ListN.{length}
-use Rattle.chain.specs.Chains.{head_at}
-use Rattle.chain.specs.declared.walk.Form.TheVariants.{First}
-use Rattle.degree.specs.Degree.{most_faces, long}
-use Rattle.degree.proofs.Chained.{walk_within, Passed, unpassed, pass-one, one_too_many, no_more}
-use borrow.Author.Rules.{rules}
+use Rattle.degree.specs.Degree.{long}
+use Rattle.degree.proofs.Chained.{walk_within, unpassed, pass-one, one_too_many, no_more}
 use Rattle.degree.proofs.length.is_long.Goals as goal
 
 pub returns-then-facing-le-MOST_FACES : goal.returns-then-facing-le-MOST_FACES

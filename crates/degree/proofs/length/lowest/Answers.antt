@@ -1,8 +1,8 @@
-use mathlib.Core.Path.{◌≡◌, sym, ◌∙◌}
-use Prim.Native.Nat.{ℕ, ◌-◌, ◌/◌}
+use mathlib.Core.Path.{sym, ◌∙◌}
+use Prim.Native.Nat.{◌/◌}
 use native.Mathlib.Omega.{arith}
 use lib.ListN.{length}
-use Rattle.chain.proofs.Search.{Searched, start, more, found, nothing}
+use Rattle.chain.proofs.Search.{start, more, found, nothing}
 use Rattle.degree.specs.Degree.{long}
 use Rattle.degree.proofs.length.lowest.Goals as goal
 

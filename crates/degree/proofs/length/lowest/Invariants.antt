@@ -1,8 +1,6 @@
-use mathlib.Core.Path.{◌≡◌, sym, ◌∙◌}
-use Prim.Native.Nat.{ℕ, ◌-◌, ◌/◌}
-use native.Mathlib.Omega.{arith}
+use Prim.Native.Nat.{◌-◌, ◌/◌}
 use lib.ListN.{length}
-use Rattle.chain.proofs.Search.{Searched, start, more, found, nothing}
+use Rattle.chain.proofs.Search.{Searched}
 use Rattle.degree.specs.Degree.{long}
 use Rattle.degree.proofs.length.lowest.Given as goal
 

@@ -1,13 +1,14 @@
 use Rattle.step.proofs.Outputs.{same-cleared}
 use Rattle.mesh.specs.Pass.{if_refused}
 use Rattle.numerics.specs.Slices.{slices}
-use Rattle.step.specs.Call.{Handed, handed}
-use mathlib.Core.Path.{◌≡◌, sym, ◌∙◌}
+use Rattle.step.specs.Call.{handed}
+use mathlib.Core.Path.{sym, ◌∙◌}
 use borrow.Author.Rules.{rules}
 use Rattle.step.proofs.work.carry_out.Goals as goal
 
 pub run-a-requires : goal.run-a-requires
 run-a-requires c = search rules
+
 -- CLAUSES lendable fit
 
 pub returns-in-Accepted : goal.returns-in-Accepted
@@ -53,5 +54,5 @@ unfolding if_refused
 returns-in-Refused c =
     record {
       answer = sym c.in-Refused.is ∙ c.run-a.ensures.answer;
-      contents = c.clear.ensures.contents ∙ same-cleared (( handed (slices c.run-a.new.starts c.run-a.new.equations c.run-a.new.weights c.run-a.new.inverses) c.run-a.new.gradient c.run-a.new.predicted c.run-a.new.coefficients c.run-a.new.flux c.run-a.new.outflow c.run-a.new.metrics)) ((handed (slices c.args.starts.now c.args.equations.now c.args.weights.now c.args.inverses.now) c.args.gradient.now c.args.predicted.now c.args.coefficients.now c.args.flux.now c.args.outflow.now c.args.metrics.now)) c.run-a.auto.starts c.run-a.auto.equations c.run-a.auto.weights c.run-a.auto.inverses c.run-a.auto.gradient c.run-a.auto.predicted c.run-a.auto.coefficients c.run-a.auto.flux c.run-a.auto.outflow c.run-a.auto.metrics;
+      contents = c.clear.ensures.contents ∙ same-cleared ((handed (slices c.run-a.new.starts c.run-a.new.equations c.run-a.new.weights c.run-a.new.inverses) c.run-a.new.gradient c.run-a.new.predicted c.run-a.new.coefficients c.run-a.new.flux c.run-a.new.outflow c.run-a.new.metrics)) ((handed (slices c.args.starts.now c.args.equations.now c.args.weights.now c.args.inverses.now) c.args.gradient.now c.args.predicted.now c.args.coefficients.now c.args.flux.now c.args.outflow.now c.args.metrics.now)) c.run-a.auto.starts c.run-a.auto.equations c.run-a.auto.weights c.run-a.auto.inverses c.run-a.auto.gradient c.run-a.auto.predicted c.run-a.auto.coefficients c.run-a.auto.flux c.run-a.auto.outflow c.run-a.auto.metrics;
     }

@@ -1,5 +1,4 @@
 use Rattle.step.proofs.Outputs.{same-handed, same-slices}
-use borrow.Author.Rules.{rules}
 use Rattle.step.proofs.work.clear.Goals as goal
 
 pub returns : goal.returns

@@ -1,15 +1,16 @@
 use Rattle.passes.proofs.Stages.{handed_out_lem, never_accepted}
 use Rattle.scheme.proofs.Parts.{with_coefficients}
-use Rattle.corrector.specs.Correction.{Correcting, correcting, correction_answer, corrected_fluxes}
+use Rattle.corrector.specs.Correction.{correcting, correction_answer, corrected_fluxes}
 use Rattle.mesh.specs.Answers.{or_else}
 use lib.Ieee.{Float}
 use mathlib.Core.List.{List}
-use mathlib.Core.Path.{◌≡◌, sym, ◌∙◌, ap}
+use mathlib.Core.Path.{sym, ◌∙◌, ap}
 use borrow.Author.Rules.{rules}
 use Rattle.step.proofs.work.correct.Goals as goal
 
 pub complete-a-requires : goal.complete-a-requires
 complete-a-requires c = search rules
+
 -- CLAUSES coupled bounded begun
 
 pub correct_face_flux-requires : goal.correct_face_flux-requires

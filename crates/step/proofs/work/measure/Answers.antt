@@ -1,12 +1,13 @@
 use Rattle.passes.proofs.Stages.{handed_out_lem, never_accepted}
 use Rattle.scheme.specs.Step.{finite_answer}
 use Rattle.mesh.specs.Answers.{or_else}
-use mathlib.Core.Path.{◌≡◌, sym, ◌∙◌, ap}
+use mathlib.Core.Path.{sym, ◌∙◌, ap}
 use borrow.Author.Rules.{rules}
 use Rattle.step.proofs.work.measure.Goals as goal
 
 pub continuity_metrics-a-requires : goal.continuity_metrics-a-requires
 continuity_metrics-a-requires c = search rules
+
 -- CLAUSES flows places_len
 
 pub returns-in-Accepted : goal.returns-in-Accepted

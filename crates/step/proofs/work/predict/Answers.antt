@@ -1,20 +1,19 @@
 use Rattle.passes.proofs.Stages.{handed_out_lem, never_accepted}
 use Rattle.scheme.proofs.Parts.{begun, sloped}
-use Rattle.coupling.specs.Grid.{Grid, grid}
-use Rattle.predictor.specs.Prediction.{Flow, flow, prediction_answer, predicted_fluxes}
-use Rattle.numerics.specs.Slices.{Slices, slices}
+use Rattle.coupling.specs.Grid.{grid}
+use Rattle.predictor.specs.Prediction.{flow, prediction_answer, predicted_fluxes}
+use Rattle.numerics.specs.Slices.{Slices}
 use Rattle.numerics.specs.Gradient.{gradients}
-use Rattle.stencil.specs.Lent.{Lent, lent}
+use Rattle.stencil.specs.Lent.{lent}
 use Rattle.mesh.specs.Answers.{or_else}
-use lib.Ieee.{Float}
 use lib.ListN.{length}
-use mathlib.Core.List.{List}
-use mathlib.Core.Path.{◌≡◌, sym, ◌∙◌, ap}
+use mathlib.Core.Path.{sym, ◌∙◌, ap}
 use borrow.Author.Rules.{rules}
 use Rattle.step.proofs.work.predict.Goals as goal
 
 pub least_squares_stencil-a-requires : goal.least_squares_stencil-a-requires
 least_squares_stencil-a-requires c = search rules
+
 -- CLAUSES buildable starts_len
 
 pub rhie_chow_predicted_flux-requires : goal.rhie_chow_predicted_flux-requires

@@ -2,14 +2,13 @@ use Rattle.passes.proofs.Stages.{never_accepted}
 use Rattle.step.proofs.Outputs.{same-handed}
 use Rattle.scheme.proofs.Parts.{predicted_size, lent-stencil, coupled, bounded, flowing, gradient_is, predicted_is, prediction_is, correctable_by, correction_is, coefficients_is, fluxes_is, flows_by, outflows_is, ends_first, ends_second, ends_last}
 use Rattle.corrector.specs.Metrics.{metrics_of, metrics_numbers}
-use Rattle.scheme.specs.Step.{Inputs, alike, predicted_of, fluxes_of}
+use Rattle.scheme.specs.Step.{alike}
 use Rattle.mesh.specs.Mesh.{mesh}
 use lib.Ieee.{Float}
 use lib.ListN.{length}
 use native.Mathlib.Omega.{arith}
 use mathlib.Core.List.{List}
-use mathlib.Core.Path.{◌≡◌, sym, ◌∙◌, ap}
-use borrow.Author.Rules.{rules}
+use mathlib.Core.Path.{sym, ◌∙◌, ap}
 use Rattle.step.proofs.work.run.Goals as goal
 
 pub predict-a-requires : goal.predict-a-requires
@@ -57,8 +56,8 @@ returns-in-Accepted-b c =
     record {
       answer = ends_last d c.requires.lendable _ _ _ _ (prediction_is d c.requires.lendable _ c.predict-a.ensures.answer) c.in-Accepted.is (correction_is d c.requires.lendable _ _ _ p n c.correct-b.ensures.answer) c.in-Accepted-b.is o c.measure.ensures.answer;
       contents = λ ok.
-        same-handed _ _ (c.predict-a.ensures.stencil c.in-Accepted.is) ((c.predict-a.ensures.contents c.in-Accepted.is).0 ∙ gradient_is d c.requires.lendable) p (y.0 ∙ coefficients_is d c.requires.lendable _ n) f ((c.measure.ensures.contents ok).0 ∙ o)
-        ((c.measure.ensures.contents ok).1 ∙ ap (λ (l : List Float). metrics_numbers (metrics_of c.args.places.now l)) o);
+          same-handed _ _ (c.predict-a.ensures.stencil c.in-Accepted.is) ((c.predict-a.ensures.contents c.in-Accepted.is).0 ∙ gradient_is d c.requires.lendable) p (y.0 ∙ coefficients_is d c.requires.lendable _ n) f ((c.measure.ensures.contents ok).0 ∙ o)
+          ((c.measure.ensures.contents ok).1 ∙ ap (λ (l : List Float). metrics_numbers (metrics_of c.args.places.now l)) o);
     }
 
 pub returns-in-Refused-b : goal.returns-in-Refused-b

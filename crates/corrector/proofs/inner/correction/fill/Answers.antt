@@ -1,11 +1,8 @@
 use Rattle.corrector.specs.Correction.{correcting, corrected_flux_at}
-use Rattle.mesh.proofs.Pass.{Passed, start, more, finish, stop}
-use Rattle.mesh.specs.declared.Outcome.{Outcome}
+use Rattle.mesh.proofs.Pass.{start, more, finish, stop}
 use lib.ListN.{length}
 use native.Mathlib.Omega.{arith}
-use Prim.Native.Nat.{ℕ, ◌-◌}
-use mathlib.Core.Path.{◌≡◌, sym, ◌∙◌}
-use borrow.Author.Rules.{rules}
+use mathlib.Core.Path.{sym, ◌∙◌}
 use Rattle.corrector.proofs.inner.correction.fill.Goals as goal
 
 pub loop-face-init : goal.loop-face-init

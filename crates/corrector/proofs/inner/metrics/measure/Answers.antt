@@ -1,14 +1,11 @@
 use Rattle.mesh.proofs.Pass.{refused_at}
-use Rattle.corrector.proofs.Largest.{Surveyed, start, more, finish}
+use Rattle.corrector.proofs.Largest.{start, more, finish}
 use Rattle.corrector.specs.Metrics.{divergence_at, measured_by}
 use Rattle.corrector.specs.declared.inner.metrics.Metrics.TheVariants.{Measured}
-use Rattle.mesh.specs.declared.Outcome.{Outcome}
 use lib.ListN.{length}
 use lib.Ieee.{Float}
 use native.Mathlib.Omega.{arith}
-use Prim.Native.Nat.{ℕ, ◌-◌, ◌≤◌, zero-le}
-use mathlib.Core.Path.{◌≡◌, refl, sym, ◌∙◌, ap}
-use borrow.Author.Rules.{rules}
+use mathlib.Core.Path.{sym, ◌∙◌, ap}
 use Rattle.corrector.proofs.inner.metrics.measure.Goals as goal
 
 pub loop-c-init : goal.loop-c-init

@@ -1,10 +1,9 @@
 use Rattle.predictor.proofs.Sides.{owned, in_places}
-use Rattle.coupling.specs.Grid.{Grid, grid}
+use Rattle.coupling.specs.Grid.{grid}
 use Rattle.predictor.specs.Boundary.{by_condition}
 use lib.ListN.{length}
 use native.Mathlib.Omega.{arith}
-use mathlib.Core.Path.{◌≡◌, sym, ◌∙◌}
-use borrow.Author.Rules.{rules}
+use mathlib.Core.Path.{◌∙◌}
 use Rattle.predictor.proofs.inner.boundary.by_condition.Goals as goal
 
 pub cell_at-owner-requires : goal.cell_at-owner-requires

@@ -1,15 +1,13 @@
-use Rattle.passes.proofs.Completed.{Completes, begun, still, further, ended, halted}
+use Rattle.passes.proofs.Completed.{begun, still, further, ended, halted}
 use Rattle.passes.proofs.Stages.{never_accepted}
 use Rattle.mesh.specs.Mesh.{bounds}
 use Rattle.predictor.specs.Boundary.{Bounded, coefficient_at}
 use Rattle.predictor.specs.Coefficients.{internal_at}
 use Rattle.coupling.specs.Grid.{Coupled, grid}
-use Rattle.mesh.specs.declared.Outcome.{Outcome}
 use lib.ListN.{length}
 use native.Mathlib.Omega.{arith}
-use Prim.Native.Nat.{ℕ, ◌-◌}
-use mathlib.Core.Path.{◌≡◌, refl, sym, ◌∙◌, subst}
-use borrow.Author.Rules.{rules}
+use Prim.Native.Nat.{ℕ}
+use mathlib.Core.Path.{refl, sym, ◌∙◌, subst}
 use Rattle.predictor.proofs.inner.boundary.complete.Goals as goal
 
 pub loop-f-init : goal.loop-f-init

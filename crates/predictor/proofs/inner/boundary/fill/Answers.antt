@@ -1,15 +1,13 @@
 use Rattle.passes.specs.Staged.{late_after}
-use Rattle.passes.proofs.Stages.{not_late, Both, start, more, stop, finish}
+use Rattle.passes.proofs.Stages.{not_late, start, more, stop, finish}
 use Rattle.coupling.specs.Grid.{grid, Coupled}
 use Rattle.predictor.specs.Coefficients.{internal_at}
 use Rattle.mesh.specs.Mesh.{bounds}
 use Rattle.predictor.specs.Boundary.{Bounded, coefficient_at}
-use Rattle.mesh.specs.declared.Outcome.{Outcome}
 use lib.ListN.{length}
 use native.Mathlib.Omega.{arith}
-use Prim.Native.Nat.{ℕ, ◌-◌}
+use Prim.Native.Nat.{ℕ}
 use mathlib.Core.Path.{◌≡◌, refl, sym, ◌∙◌, subst}
-use mathlib.Core.Logic.{⊎_elim}
 use Rattle.predictor.proofs.inner.boundary.fill.Goals as goal
 use Rattle.predictor.proofs.inner.boundary.fill.Goals.{then-is_late, else-is_late}
 

@@ -1,12 +1,10 @@
 use Rattle.predictor.proofs.Sides.{owned, in_places, linked, peer_reads, peer_owned}
-use Rattle.coupling.specs.Grid.{Grid, grid}
-use Rattle.mesh.specs.Mesh.{Bounds, bounds}
+use Rattle.coupling.specs.Grid.{grid}
+use Rattle.mesh.specs.Mesh.{bounds}
 use Rattle.predictor.specs.Boundary.{linked_at}
 use lib.ListN.{length}
-use native.Mathlib.Omega.{arith}
 use Prim.Native.Nat.{ℕ, ◌<◌}
-use mathlib.Core.Path.{◌≡◌, sym, ◌∙◌, subst, ap}
-use borrow.Author.Rules.{rules}
+use mathlib.Core.Path.{sym, ◌∙◌, subst}
 use Rattle.predictor.proofs.inner.boundary.linked_at.Goals as goal
 
 pub overflow_sub-link : goal.overflow_sub-link

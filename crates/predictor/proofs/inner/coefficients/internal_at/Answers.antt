@@ -1,5 +1,5 @@
 use Rattle.predictor.specs.Coefficients.{internal_at}
-use Rattle.coupling.specs.Grid.{Grid, grid}
+use Rattle.coupling.specs.Grid.{grid}
 use Rattle.predictor.proofs.Between.{coefficient_read}
 use Rattle.predictor.proofs.Sides.{owned, across, in_places}
 use Rattle.mesh.specs.declared.Face.{Face}
@@ -7,9 +7,7 @@ use borrow.Author.Tests.{eq-eqb, ne_eqb}
 use native.Mathlib.Omega.{arith}
 use lib.ListN.{length}
 use native.Mathlib.Omega.{arith}
-use Prim.Native.Nat.{ℕ, ◌<◌, ◌≤◌}
-use mathlib.Core.Path.{◌≡◌, sym, ◌∙◌, ap}
-use borrow.Author.Rules.{rules}
+use mathlib.Core.Path.{sym, ◌∙◌, ap}
 use Rattle.predictor.proofs.inner.coefficients.internal_at.Goals as goal
 
 pub returns-then-face-eq0 : goal.returns-then-face-eq0

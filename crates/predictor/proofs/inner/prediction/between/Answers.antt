@@ -1,19 +1,18 @@
 use Rattle.predictor.proofs.Between.{coefficient_read, flux_read}
 use Rattle.predictor.proofs.Sides.{owned, across, in_places}
 use Rattle.passes.specs.Staged.{late_of, staged, stored_at}
-use Rattle.predictor.specs.Prediction.{flow, predicted_at}
-use Rattle.coupling.specs.Grid.{Grid, grid}
+use Rattle.predictor.specs.Prediction.{flow}
+use Rattle.coupling.specs.Grid.{grid}
 use Rattle.predictor.specs.Coefficients.{internal_at}
 use Rattle.mesh.specs.declared.Face.{Face}
 use Rattle.chain.specs.Pairs.{second_at}
 use borrow.Author.Tests.{ne_eqb}
 use lib.ListN.{length}
 use native.Mathlib.Omega.{arith}
-use Prim.Native.Nat.{ℕ, ◌-◌, ◌<◌}
+use Prim.Native.Nat.{◌-◌, ◌<◌}
 use mathlib.Core.Bool.{false}
 use lib.Dec.{eqb}
 use mathlib.Core.Path.{◌≡◌, sym, ◌∙◌, ap, subst}
-use borrow.Author.Rules.{rules}
 use Rattle.predictor.proofs.inner.prediction.between.Goals as goal
 
 pub overflow_sub-n : goal.overflow_sub-n

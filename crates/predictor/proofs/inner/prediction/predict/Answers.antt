@@ -1,15 +1,12 @@
 use Rattle.passes.specs.Staged.{late_after}
-use Rattle.passes.proofs.Stages.{never_accepted, not_late, Both, start, more, stop, finish, Stores, empty, stored, filled}
+use Rattle.passes.proofs.Stages.{never_accepted, not_late, start, more, stop, finish, empty, stored, filled}
 use Rattle.predictor.specs.Prediction.{flow, predicted_at}
 use Rattle.coupling.specs.Grid.{grid}
 use Rattle.predictor.specs.Coefficients.{internal_at}
-use Rattle.mesh.specs.declared.Outcome.{Outcome}
 use lib.ListN.{length}
 use native.Mathlib.Nat.{le_antisymm}
 use native.Mathlib.Omega.{arith}
-use Prim.Native.Nat.{ℕ, ◌-◌}
 use mathlib.Core.Path.{◌≡◌, refl, sym, ◌∙◌}
-use mathlib.Core.Logic.{⊎_elim}
 use Rattle.predictor.proofs.inner.prediction.predict.Goals as goal
 use Rattle.predictor.proofs.inner.prediction.predict.Goals.{then-is_late, else-is_late}
 

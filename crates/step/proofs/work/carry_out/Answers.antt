@@ -54,5 +54,5 @@ unfolding if_refused
 returns-in-Refused c =
     record {
       answer = sym c.in-Refused.is ∙ c.run-a.ensures.answer;
-      contents = c.clear.ensures.contents ∙ same-cleared ((handed (slices c.run-a.new.starts c.run-a.new.equations c.run-a.new.weights c.run-a.new.inverses) c.run-a.new.gradient c.run-a.new.predicted c.run-a.new.coefficients c.run-a.new.flux c.run-a.new.outflow c.run-a.new.metrics)) ((handed (slices c.args.starts.now c.args.equations.now c.args.weights.now c.args.inverses.now) c.args.gradient.now c.args.predicted.now c.args.coefficients.now c.args.flux.now c.args.outflow.now c.args.metrics.now)) c.run-a.auto.starts c.run-a.auto.equations c.run-a.auto.weights c.run-a.auto.inverses c.run-a.auto.gradient c.run-a.auto.predicted c.run-a.auto.coefficients c.run-a.auto.flux c.run-a.auto.outflow c.run-a.auto.metrics;
+      contents = c.clear.ensures.contents ∙ same-cleared (handed (slices c.run-a.new.starts c.run-a.new.equations c.run-a.new.weights c.run-a.new.inverses) c.run-a.new.gradient c.run-a.new.predicted c.run-a.new.coefficients c.run-a.new.flux c.run-a.new.outflow c.run-a.new.metrics) (handed (slices c.args.starts.now c.args.equations.now c.args.weights.now c.args.inverses.now) c.args.gradient.now c.args.predicted.now c.args.coefficients.now c.args.flux.now c.args.outflow.now c.args.metrics.now) c.run-a.auto.starts c.run-a.auto.equations c.run-a.auto.weights c.run-a.auto.inverses c.run-a.auto.gradient c.run-a.auto.predicted c.run-a.auto.coefficients c.run-a.auto.flux c.run-a.auto.outflow c.run-a.auto.metrics;
     }

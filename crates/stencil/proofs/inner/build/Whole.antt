@@ -81,9 +81,9 @@ module _ (m : Lent) (records : ℕ) where
         rw (ps, pe, pi)
         record {
           within = add-one-le l;
-          starts_size = length-set starts c _ ∙ p.starts-size;
+          starts_size = length-set starts c _ ∙ p.starts_size;
           sized = record { numbers = length_ended used q.used e ∙ he; floats = hw };
-          inverses_size = length-nine inverses c q.inverse ∙ p.inverses-size;
+          inverses_size = length-nine inverses c q.inverse ∙ p.inverses_size;
           room = roomy q h;
           done = rw (add-one, p.done, ← is-cell, h);
         }

@@ -1,0 +1,14 @@
+use borrow.Author.Tests.{eq-eqb, ne_eqb}
+use mathlib.Core.Path.{◌≡◌, refl, sym, ◌∙◌}
+use native.Mathlib.Omega.{arith}
+use lib.ListN.{length}
+use Rattle.chain.specs.Chains.{walk, Chain}
+use Rattle.stencil.specs.Ring.{elem}
+use Rattle.chain.proofs.Chains.{Onward, onward, walk_over, room}
+use Rattle.stencil.proofs.inner.ring.contains.Given as goal
+
+abbrev pub invariant-loop-r : goal.invariant-loop-r
+invariant-loop-r l = Chain l.chain l.n l.limit l.r × (elem l.d (walk l.chain l.n l.r) ≡ elem l.d (walk l.chain l.n l.first))
+
+abbrev pub decreases-loop-r : goal.decreases-loop-r
+decreases-loop-r l = length (walk l.chain l.n l.r)

@@ -4,7 +4,7 @@ use Rattle.std.specs.Borrow.{Bor, MutBor}
 use Rattle.mesh.specs.Lent.{Slice, MutSlice}
 use Rattle.mesh.specs.Mesh.{Mesh, mesh, Conditions}
 use Rattle.mesh.specs.declared.Counts.{Counts}
-use Rattle.numerics.specs.Slices.{slices, slices_after}
+use Rattle.numerics.specs.Slices.{slices, slices_before, slices_after}
 use Rattle.coupling.specs.Grid.{field_lent}
 use Rattle.scheme.specs.Step.{Inputs, inputs, alike}
 use Rattle.step.specs.Call.{Handed, handed}
@@ -19,6 +19,11 @@ inputs_lent m k n a v b p c r d w e x = inputs m k n (field_lent a v) (field_len
 abbrev pub alike_lent : Mesh → Slice ℕ → Slice Float → ℕ → Slice Float → Slice Float → Slice Float → Slice Float → Slice Float → Inputs
 alike_lent m c z n v p r w x =
     alike m c.entry.now z.entry.now n v.entry.now p.entry.now r.entry.now w.entry.now x.entry.now
+
+-- the outputs as they are, where a call only reads them
+abbrev pub outputs_lent : Slice ℕ → Slice ℕ → Slice Float → Slice Float → Slice Float → Slice Float → Slice Float → Slice Float → Slice Float → Slice Float → Handed
+outputs_lent s e w i g p k f o m =
+    handed (slices_before s e w i) g.entry.now p.entry.now k.entry.now f.entry.now o.entry.now m.entry.now
 
 abbrev pub outputs_before : MutSlice ℕ → MutSlice ℕ → MutSlice Float → MutSlice Float → MutSlice Float → MutSlice Float → MutSlice Float → MutSlice Float → MutSlice Float → MutSlice Float → Handed
 outputs_before s e w i g p k f o m =

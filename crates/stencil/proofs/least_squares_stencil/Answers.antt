@@ -1,11 +1,10 @@
-use mathlib.Core.Path.{◌≡◌, refl, sym, ◌∙◌}
+use mathlib.Core.Path.{sym, ◌∙◌}
 use lib.ListN.{length}
 use Rattle.mesh.specs.Answers.{or_else}
 use Rattle.mesh.specs.Mesh.{mesh, conditions}
 use Rattle.mesh.specs.Pass.{if_refused}
 use Rattle.numerics.specs.Slices.{lengths}
 use Rattle.stencil.proofs.Buildable.{passed_checks}
-use borrow.Author.Rules.{rules}
 use Rattle.stencil.proofs.least_squares_stencil.Goals as goal
 
 pub least_squares_stencil-requires : goal.least_squares_stencil-requires
@@ -24,7 +23,7 @@ returns-in-Accepted c =
       call = record {
         answer = rw a c.least_squares_stencil.ensures.built.0;
         slices = rw a c.least_squares_stencil.ensures.built.1;
-        };
+      };
     }
 
 pub returns-in-Refused : goal.returns-in-Refused

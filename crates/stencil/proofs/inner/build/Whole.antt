@@ -22,7 +22,7 @@ use Rattle.stencil.specs.declared.inner.build.Finish.TheVariants.{Failed, Done}
 use Rattle.stencil.specs.Lent.{Lent, Buildable}
 use Rattle.stencil.specs.Building.{building, finish_of}
 use Rattle.stencil.specs.Cell.{cell_stencil}
-use Rattle.stencil.specs.Stencil.{start_of, ended_at, put_nine, stencil, Result, refused, built, joined, add_cell, below, answer_of, slices_of, stencil_answer, stencil_slices}
+use Rattle.stencil.specs.Stencil.{start_of, ended_at, put_nine, stencil, refused, built, joined, add_cell, below, answer_of, slices_of, stencil_answer, stencil_slices}
 use Rattle.stencil.proofs.inner.build.Laws.{RecordSized}
 use Rattle.stencil.proofs.inner.build.Within.{Finishes, cell_within}
 

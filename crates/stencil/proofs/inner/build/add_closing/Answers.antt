@@ -5,7 +5,6 @@ use Rattle.stencil.proofs.inner.build.add_closing.Goals as goal
 
 pub offer_at-o-requires : goal.offer_at-o-requires
 offer_at-o-requires c = search rules
--- CLAUSES buildable c_lt_cells f_lt_faces
 
 pub add_normal-requires : goal.add_normal-requires
 add_normal-requires c =

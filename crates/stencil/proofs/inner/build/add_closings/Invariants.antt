@@ -1,15 +1,8 @@
-use borrow.Author.Rules.{rules}
-use mathlib.Core.Path.{refl, sym, ◌∙◌, ap}
-use Prim.Native.Nat.{ℕ}
-use native.Mathlib.Omega.{arith}
 use lib.ListN.{length}
-use mathlib.Core.List.{List}
-use Rattle.chain.specs.Chains.{item_of, next_of, walk}
-use Rattle.chain.proofs.Chains.{Onward, room}
-use Rattle.stencil.specs.Lent.{Lent, lent}
-use Rattle.stencil.specs.Building.{Building, Course, course_of}
+use Rattle.chain.specs.Chains.{walk}
+use Rattle.stencil.specs.Lent.{lent}
 use Rattle.stencil.specs.Cell.{add_closing, close}
-use Rattle.stencil.proofs.inner.build.Laws.{two_in, RecordSized, held, Walking, walk_next, walk_more, walk_stop, walk_done, steps_on, steps_out}
+use Rattle.stencil.proofs.inner.build.Laws.{RecordSized, held, Walking}
 use Rattle.stencil.proofs.inner.build.add_closings.Given as goal
 
 abbrev pub invariant-loop-r : goal.invariant-loop-r

@@ -5,7 +5,6 @@ use Rattle.stencil.proofs.inner.build.add_face.Goals as goal
 
 pub offer_at-o-requires : goal.offer_at-o-requires
 offer_at-o-requires c = search rules
--- CLAUSES buildable c_lt_cells f_lt_faces
 
 pub add_difference-requires : goal.add_difference-requires
 add_difference-requires c =

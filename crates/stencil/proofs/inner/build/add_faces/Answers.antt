@@ -1,15 +1,12 @@
-use borrow.Author.Rules.{rules}
 use mathlib.Core.Path.{refl, sym, ◌∙◌, ap}
 use Prim.Native.Nat.{ℕ}
 use native.Mathlib.Omega.{arith}
-use lib.ListN.{length}
-use mathlib.Core.List.{List}
-use Rattle.chain.specs.Chains.{item_of, next_of, walk}
+use Rattle.chain.specs.Chains.{next_of, walk}
 use Rattle.chain.proofs.Chains.{Onward, room}
-use Rattle.stencil.specs.Lent.{Lent, lent}
-use Rattle.stencil.specs.Building.{Building, Course, course_of}
+use Rattle.stencil.specs.Lent.{lent}
+use Rattle.stencil.specs.Building.{course_of}
 use Rattle.stencil.specs.Cell.{add_face, gather}
-use Rattle.stencil.proofs.inner.build.Laws.{two_in, RecordSized, held, Walking, walk_next, walk_more, walk_stop, walk_done, steps_on, steps_out}
+use Rattle.stencil.proofs.inner.build.Laws.{two_in, held, walk_next, walk_more, walk_stop, walk_done, steps_on, steps_out}
 use Rattle.stencil.proofs.inner.build.add_faces.Goals as goal
 
 pub first_of-r-requires : goal.first_of-r-requires
@@ -18,11 +15,10 @@ first_of-r-requires c =
 
 pub loop-r-init : goal.loop-r-init
 unfolding gather
-loop-r-init c =
-     (
-      record { numbers = c.requires.equations_len; floats = c.requires.weights_len },
-      rw c.first_of-r.ensures record { chain = c.requires.buildable.sound.facings c.args.c c.requires.c_lt_cells; rest = refl },
-    )
+loop-r-init c = (
+  record { numbers = c.requires.equations_len; floats = c.requires.weights_len },
+  rw c.first_of-r.ensures record { chain = c.requires.buildable.sound.facings c.args.c c.requires.c_lt_cells; rest = refl },
+)
 
 pub overflow_sub-r : goal.overflow_sub-r
 overflow_sub-r c = omega (arith, c.loop-r-test.true)
@@ -91,8 +87,7 @@ loop-r-preserved c =
     c.args.bordering.now c.args.codes.now c.args.values.now in
     let step = add_face m c.args.records c.args.c in
     let b = held c.loop-r.p c.loop-r.equations c.loop-r.weights in
-    let rest = walk c.args.facing.now c.args.counts.facings (next_of c.args.facing.now c.loop-r.r) in
-    (
+    let rest = walk c.args.facing.now c.args.counts.facings (next_of c.args.facing.now c.loop-r.r) in (
       record {
         numbers = c.add_face-s.auto.equations ∙ c.loop-r.invariant.0.numbers;
         floats = c.add_face-s.auto.weights ∙ c.loop-r.invariant.0.floats;

@@ -5,7 +5,6 @@ use Rattle.stencil.proofs.inner.build.add_normal.Goals as goal
 
 pub append-requires : goal.append-requires
 append-requires c = search rules
--- CLAUSES equations_len weights_len
 
 pub returns-then-far : goal.returns-then-far
 unfolding add_normal

@@ -1,27 +1,23 @@
-use borrow.Author.Rules.{rules}
 use mathlib.Core.Path.{sym, ◌∙◌}
-use Prim.Native.Nat.{ℕ, ◌-◌}
 use native.Mathlib.Omega.{arith}
-use Rattle.stencil.specs.Lent.{Lent, lent, web_of}
-use Rattle.stencil.specs.Building.{Building, Course, course_of}
-use Rattle.stencil.specs.Cell.{add_ring, extend}
-use Rattle.stencil.proofs.inner.build.Laws.{web-of, RecordSized, held, Ringing, after, ring_start, ring_more, ring_stop, ring_done, rises, steps_on, steps_out}
+use Rattle.stencil.specs.Building.{course_of}
+use Rattle.stencil.specs.Cell.{extend}
+use Rattle.stencil.proofs.inner.build.Laws.{web-of, ring_start, ring_more, ring_stop, ring_done, rises, steps_on, steps_out}
 use Rattle.stencil.proofs.inner.build.add_ring.Goals as goal
 
 pub next_in_ring-d-requires : goal.next_in_ring-d-requires
 next_in_ring-d-requires c =
     record {
-      web = web-of ((lent c.args.counts c.args.adjacency.now c.args.geometry.now c.args.heads.now c.args.places.now c.args.facing.now c.args.bordering.now c.args.codes.now c.args.values.now)) c.requires.buildable;
+      web = web-of _ c.requires.buildable;
       c_lt_cells = c.requires.c_lt_cells;
     }
 
 pub loop-d-init : goal.loop-d-init
 unfolding extend
-loop-d-init c =
-     (
-      record { numbers = c.requires.equations_len; floats = c.requires.weights_len },
-      ring_start _ (web_of ((lent c.args.counts c.args.adjacency.now c.args.geometry.now c.args.heads.now c.args.places.now c.args.facing.now c.args.bordering.now c.args.codes.now c.args.values.now)).mesh) c.args.c _ _ c.next_in_ring-d.ensures.lowest,
-    )
+loop-d-init c = (
+  record { numbers = c.requires.equations_len; floats = c.requires.weights_len },
+  ring_start _ _ c.args.c _ _ c.next_in_ring-d.ensures.lowest,
+)
 
 pub add_ring_cell-s-requires : goal.add_ring_cell-s-requires
 add_ring_cell-s-requires c =
@@ -43,11 +39,10 @@ shape_of-weights-in_default c =
 
 pub returns-in_default : goal.returns-in_default
 returns-in_default c =
-    let w = web_of ((lent c.args.counts c.args.adjacency.now c.args.geometry.now c.args.heads.now c.args.places.now c.args.facing.now c.args.bordering.now c.args.codes.now c.args.values.now)).mesh in
     record {
-      built = ring_stop ((add_ring ((lent c.args.counts c.args.adjacency.now c.args.geometry.now c.args.heads.now c.args.places.now c.args.facing.now c.args.bordering.now c.args.codes.now c.args.values.now)) c.args.records c.args.c)) w c.args.c ((extend ((lent c.args.counts c.args.adjacency.now c.args.geometry.now c.args.heads.now c.args.places.now c.args.facing.now c.args.bordering.now c.args.codes.now c.args.values.now)) c.args.records c.args.c (held c.args.start c.args.equations.now c.args.weights.now))) ((held c.loop-d.p c.loop-d.equations c.loop-d.weights)) c.loop-d.d c.loop-d.invariant.1 _ c.loop-d-test.true
-        (steps_out ((add_ring ((lent c.args.counts c.args.adjacency.now c.args.geometry.now c.args.heads.now c.args.places.now c.args.facing.now c.args.bordering.now c.args.codes.now c.args.values.now)) c.args.records c.args.c)) c.loop-d.d (after ((add_ring ((lent c.args.counts c.args.adjacency.now c.args.geometry.now c.args.heads.now c.args.places.now c.args.facing.now c.args.bordering.now c.args.codes.now c.args.values.now)) c.args.records c.args.c)) w c.args.c ((extend ((lent c.args.counts c.args.adjacency.now c.args.geometry.now c.args.heads.now c.args.places.now c.args.facing.now c.args.bordering.now c.args.codes.now c.args.values.now)) c.args.records c.args.c (held c.args.start c.args.equations.now c.args.weights.now))) ((held c.loop-d.p c.loop-d.equations c.loop-d.weights)) c.loop-d.d c.loop-d.invariant.1) ((held c.loop-d.p c.loop-d.equations c.loop-d.weights))
-        c.add_ring_cell-s.result _ _ c.add_ring_cell-s.ensures.built _ _ c.in_default.is);
+      built = ring_stop _ _ c.args.c _ _ c.loop-d.d c.loop-d.invariant.1 _ c.loop-d-test.true
+          (steps_out _ c.loop-d.d _ _
+          c.add_ring_cell-s.result _ _ c.add_ring_cell-s.ensures.built _ _ c.in_default.is);
     }
 
 pub overflow_add-d : goal.overflow_add-d
@@ -57,26 +52,25 @@ overflow_add-d c =
 pub next_in_ring-d-requires-in-loop-d : goal.next_in_ring-d-requires-in-loop-d
 next_in_ring-d-requires-in-loop-d c =
     record {
-      web = web-of ((lent c.args.counts c.args.adjacency.now c.args.geometry.now c.args.heads.now c.args.places.now c.args.facing.now c.args.bordering.now c.args.codes.now c.args.values.now)) c.requires.buildable;
+      web = web-of _ c.requires.buildable;
       c_lt_cells = c.requires.c_lt_cells;
     }
 
 pub loop-d-smaller : goal.loop-d-smaller
 loop-d-smaller c =
-    rises (web_of ((lent c.args.counts c.args.adjacency.now c.args.geometry.now c.args.heads.now c.args.places.now c.args.facing.now c.args.bordering.now c.args.codes.now c.args.values.now)).mesh) c.args.c c.loop-d.d _ c.loop-d-test.true c.next_in_ring-d-in-loop-d.ensures.lowest
+    rises _ c.args.c c.loop-d.d _ c.loop-d-test.true c.next_in_ring-d-in-loop-d.ensures.lowest
 
 pub loop-d-preserved : goal.loop-d-preserved
-loop-d-preserved c =
-    let w = web_of ((lent c.args.counts c.args.adjacency.now c.args.geometry.now c.args.heads.now c.args.places.now c.args.facing.now c.args.bordering.now c.args.codes.now c.args.values.now)).mesh in (
-      record {
-        numbers = c.add_ring_cell-s.auto.equations ∙ c.loop-d.invariant.0.numbers;
-        floats = c.add_ring_cell-s.auto.weights ∙ c.loop-d.invariant.0.floats;
-      },
-      ring_more ((add_ring ((lent c.args.counts c.args.adjacency.now c.args.geometry.now c.args.heads.now c.args.places.now c.args.facing.now c.args.bordering.now c.args.codes.now c.args.values.now)) c.args.records c.args.c)) w c.args.c ((extend ((lent c.args.counts c.args.adjacency.now c.args.geometry.now c.args.heads.now c.args.places.now c.args.facing.now c.args.bordering.now c.args.codes.now c.args.values.now)) c.args.records c.args.c (held c.args.start c.args.equations.now c.args.weights.now))) ((held c.loop-d.p c.loop-d.equations c.loop-d.weights)) c.loop-d.d c.loop-d.invariant.1 _ c.loop-d-test.true
-          (steps_on ((add_ring ((lent c.args.counts c.args.adjacency.now c.args.geometry.now c.args.heads.now c.args.places.now c.args.facing.now c.args.bordering.now c.args.codes.now c.args.values.now)) c.args.records c.args.c)) c.loop-d.d (after ((add_ring ((lent c.args.counts c.args.adjacency.now c.args.geometry.now c.args.heads.now c.args.places.now c.args.facing.now c.args.bordering.now c.args.codes.now c.args.values.now)) c.args.records c.args.c)) w c.args.c ((extend ((lent c.args.counts c.args.adjacency.now c.args.geometry.now c.args.heads.now c.args.places.now c.args.facing.now c.args.bordering.now c.args.codes.now c.args.values.now)) c.args.records c.args.c (held c.args.start c.args.equations.now c.args.weights.now))) ((held c.loop-d.p c.loop-d.equations c.loop-d.weights)) c.loop-d.d c.loop-d.invariant.1) ((held c.loop-d.p c.loop-d.equations c.loop-d.weights))
-          c.add_ring_cell-s.result _ _ c.add_ring_cell-s.ensures.built _ c.in-Going.is)
-          _ c.next_in_ring-d-in-loop-d.ensures.lowest,
-    )
+loop-d-preserved c = (
+  record {
+    numbers = c.add_ring_cell-s.auto.equations ∙ c.loop-d.invariant.0.numbers;
+    floats = c.add_ring_cell-s.auto.weights ∙ c.loop-d.invariant.0.floats;
+  },
+  ring_more _ _ c.args.c _ _ c.loop-d.d c.loop-d.invariant.1 _ c.loop-d-test.true
+      (steps_on _ c.loop-d.d _ _
+      c.add_ring_cell-s.result _ _ c.add_ring_cell-s.ensures.built _ c.in-Going.is)
+      _ c.next_in_ring-d-in-loop-d.ensures.lowest,
+)
 
 pub shape_of-equations : goal.shape_of-equations
 shape_of-equations c =
@@ -90,5 +84,5 @@ pub returns : goal.returns
 unfolding course_of
 returns c =
     record {
-      built = ring_done _ (web_of ((lent c.args.counts c.args.adjacency.now c.args.geometry.now c.args.heads.now c.args.places.now c.args.facing.now c.args.bordering.now c.args.codes.now c.args.values.now)).mesh) c.args.c _ _ c.loop-d.d c.loop-d.invariant.1 c.loop-d-test.false;
+      built = ring_done _ _ c.args.c _ _ c.loop-d.d c.loop-d.invariant.1 c.loop-d-test.false;
     }

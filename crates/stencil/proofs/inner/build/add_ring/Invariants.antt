@@ -1,11 +1,7 @@
-use borrow.Author.Rules.{rules}
-use mathlib.Core.Path.{sym, ◌∙◌}
-use Prim.Native.Nat.{ℕ, ◌-◌}
-use native.Mathlib.Omega.{arith}
-use Rattle.stencil.specs.Lent.{Lent, lent, web_of}
-use Rattle.stencil.specs.Building.{Building, Course, course_of}
+use Prim.Native.Nat.{◌-◌}
+use Rattle.stencil.specs.Lent.{lent, web_of}
 use Rattle.stencil.specs.Cell.{add_ring, extend}
-use Rattle.stencil.proofs.inner.build.Laws.{web-of, RecordSized, held, Ringing, after, ring_start, ring_more, ring_stop, ring_done, rises, steps_on, steps_out}
+use Rattle.stencil.proofs.inner.build.Laws.{RecordSized, held, Ringing}
 use Rattle.stencil.proofs.inner.build.add_ring.Given as goal
 
 abbrev pub invariant-loop-d : goal.invariant-loop-d

@@ -1,5 +1,4 @@
 use native.Mathlib.Omega.{arith}
-use borrow.Author.Rules.{rules}
 use Rattle.stencil.specs.Building.{course_of}
 use Rattle.stencil.specs.Cell.{add_ring}
 use Rattle.stencil.proofs.inner.build.add_ring_cell.Goals as goal
@@ -30,8 +29,8 @@ returns-then-far c =
         ← c.div-direction.ensures,
         ← c.add_outer-n.ensures,
         ← c.div-w.ensures,
-        )
-        c.append.ensures;
+      )
+          c.append.ensures;
     }
 
 pub returns-else-far : goal.returns-else-far
@@ -45,5 +44,5 @@ returns-else-far c =
         ← c.norm_squared-squared.ensures,
         ← c.far.ensures,
         c.if-far.false,
-        );
+      );
     }

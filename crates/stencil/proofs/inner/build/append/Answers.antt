@@ -6,7 +6,6 @@ use Rattle.stencil.proofs.inner.build.append.Goals as goal
 
 pub put_record-requires : goal.put_record-requires
 put_record-requires c = search rules
--- CLAUSES used_in_bounds used_in_bounds_2
 
 pub returns-then-used-records : goal.returns-then-used-records
 unfolding push course_of

@@ -1,4 +1,3 @@
-use borrow.Author.Rules.{rules}
 use Rattle.stencil.specs.Cell.{wall}
 use Rattle.stencil.proofs.inner.build.at_wall.Goals as goal
 

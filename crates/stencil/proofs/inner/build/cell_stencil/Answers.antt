@@ -1,15 +1,13 @@
 use borrow.Author.Tests.{eq-eqb, ne_eqb}
 use mathlib.Core.Path.{◌∙◌}
 use borrow.Author.Rules.{rules}
-use Rattle.stencil.specs.Lent.{Lent, lent}
-use Rattle.stencil.specs.Building.{Building, finish_of}
-use Rattle.stencil.specs.Cell.{gather, gathered, cell_stencil, settle}
-use Rattle.stencil.proofs.inner.build.Laws.{held, then_on, then_out}
+use Rattle.stencil.specs.Building.{finish_of}
+use Rattle.stencil.specs.Cell.{gathered, cell_stencil, settle}
+use Rattle.stencil.proofs.inner.build.Laws.{then_on, then_out}
 use Rattle.stencil.proofs.inner.build.cell_stencil.Goals as goal
 
 pub add_faces-s-requires : goal.add_faces-s-requires
 add_faces-s-requires c = search rules
--- CLAUSES buildable c_lt_cells equations_len weights_len
 
 pub widen_cell-requires : goal.widen_cell-requires
 widen_cell-requires c =
@@ -33,26 +31,40 @@ pub returns-in-Halted : goal.returns-in-Halted
 unfolding cell_stencil
 returns-in-Halted c =
     record {
-      built = then_out (gather ((lent c.args.counts c.args.adjacency.now c.args.geometry.now c.args.heads.now c.args.places.now c.args.facing.now c.args.bordering.now c.args.codes.now c.args.values.now)) c.args.records c.args.c ((held c.args.p c.args.equations.now c.args.weights.now))) (gathered ((lent c.args.counts c.args.adjacency.now c.args.geometry.now c.args.heads.now c.args.places.now c.args.facing.now c.args.bordering.now c.args.codes.now c.args.values.now)) c.args.records c.args.c) c.add_faces-s.result _ _ c.add_faces-s.ensures.built _ _ c.in-Halted.is;
+      built = then_out _ _ c.add_faces-s.result _ _ c.add_faces-s.ensures.built _ _ c.in-Halted.is;
     }
 
 pub returns-in-Inverse : goal.returns-in-Inverse
 unfolding cell_stencil gathered settle finish_of
 returns-in-Inverse c =
     record {
-      built = rw (← then_on (gather ((lent c.args.counts c.args.adjacency.now c.args.geometry.now c.args.heads.now c.args.places.now c.args.facing.now c.args.bordering.now c.args.codes.now c.args.values.now)) c.args.records c.args.c ((held c.args.p c.args.equations.now c.args.weights.now))) (gathered ((lent c.args.counts c.args.adjacency.now c.args.geometry.now c.args.heads.now c.args.places.now c.args.facing.now c.args.bordering.now c.args.codes.now c.args.values.now)) c.args.records c.args.c) c.add_faces-s.result _ _ c.add_faces-s.ensures.built _ c.in-Going.is, ← c.inverse_normal_matrix-i.ensures, c.in-Inverse.is);
+      built = rw (
+        ← then_on _ _ c.add_faces-s.result _ _ c.add_faces-s.ensures.built _ c.in-Going.is,
+        ← c.inverse_normal_matrix-i.ensures,
+        c.in-Inverse.is,
+      );
     }
 
 pub returns-then-counts-eq2 : goal.returns-then-counts-eq2
 unfolding cell_stencil gathered settle
 returns-then-counts-eq2 c =
     record {
-      built = rw (← then_on (gather ((lent c.args.counts c.args.adjacency.now c.args.geometry.now c.args.heads.now c.args.places.now c.args.facing.now c.args.bordering.now c.args.codes.now c.args.values.now)) c.args.records c.args.c ((held c.args.p c.args.equations.now c.args.weights.now))) (gathered ((lent c.args.counts c.args.adjacency.now c.args.geometry.now c.args.heads.now c.args.places.now c.args.facing.now c.args.bordering.now c.args.codes.now c.args.values.now)) c.args.records c.args.c) c.add_faces-s.result _ _ c.add_faces-s.ensures.built _ c.in-Going.is, ← c.inverse_normal_matrix-i.ensures, c.in-Singular.is, eq-eqb _ _ c.if-counts-eq2.true) c.widen_cell.ensures.built;
+      built = rw (
+        ← then_on _ _ c.add_faces-s.result _ _ c.add_faces-s.ensures.built _ c.in-Going.is,
+        ← c.inverse_normal_matrix-i.ensures,
+        c.in-Singular.is,
+        eq-eqb _ _ c.if-counts-eq2.true,
+      ) c.widen_cell.ensures.built;
     }
 
 pub returns-else-counts-eq2 : goal.returns-else-counts-eq2
 unfolding cell_stencil gathered settle
 returns-else-counts-eq2 c =
     record {
-      built = rw (← then_on (gather ((lent c.args.counts c.args.adjacency.now c.args.geometry.now c.args.heads.now c.args.places.now c.args.facing.now c.args.bordering.now c.args.codes.now c.args.values.now)) c.args.records c.args.c ((held c.args.p c.args.equations.now c.args.weights.now))) (gathered ((lent c.args.counts c.args.adjacency.now c.args.geometry.now c.args.heads.now c.args.places.now c.args.facing.now c.args.bordering.now c.args.codes.now c.args.values.now)) c.args.records c.args.c) c.add_faces-s.result _ _ c.add_faces-s.ensures.built _ c.in-Going.is, ← c.inverse_normal_matrix-i.ensures, c.in-Singular.is, ne_eqb _ _ c.if-counts-eq2.false) c.finish_cell.ensures.built;
+      built = rw (
+        ← then_on _ _ c.add_faces-s.result _ _ c.add_faces-s.ensures.built _ c.in-Going.is,
+        ← c.inverse_normal_matrix-i.ensures,
+        c.in-Singular.is,
+        ne_eqb _ _ c.if-counts-eq2.false,
+      ) c.finish_cell.ensures.built;
     }

@@ -1,5 +1,4 @@
 use borrow.Author.Tests.{lt-ltb, le-ltb}
-use borrow.Author.Rules.{rules}
 use Rattle.stencil.specs.Stencil.{ended_at}
 use Rattle.stencil.proofs.inner.build.end_chain.Goals as goal
 

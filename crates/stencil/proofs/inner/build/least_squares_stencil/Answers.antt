@@ -1,16 +1,15 @@
-use borrow.Author.Rules.{rules, scaled_Fits}
+use borrow.Author.Rules.{scaled_Fits}
 use mathlib.Core.Path.{refl, sym, ◌∙◌}
-use Prim.Native.Nat.{◌-◌, ◌<◌, ◌≤◌}
+use Prim.Native.Nat.{◌<◌, ◌≤◌}
 use native.Mathlib.Omega.{arith}
 use lib.ListN.{length}
-use Rattle.stencil.specs.Lent.{Lent, lent}
 use Rattle.stencil.proofs.inner.build.Laws.{nine_in, fits, falls}
-use Rattle.stencil.proofs.inner.build.Whole.{Pass, start, roomy, more, stop, all_done, accepted, turned_away}
+use Rattle.stencil.proofs.inner.build.Whole.{start, roomy, more, stop, all_done, accepted, turned_away}
 use Rattle.stencil.proofs.inner.build.least_squares_stencil.Goals as goal
 
 pub loop-c-init : goal.loop-c-init
 loop-c-init c =
-    start ((lent c.args.counts c.args.adjacency.now c.args.geometry.now c.args.heads.now c.args.places.now c.args.facing.now c.args.bordering.now c.args.codes.now c.args.values.now)) c.args.records _ _ _ _ _ _ _ _ c.clear_numbers.ensures c.clear_numbers-2.ensures
+    start _ c.args.records _ _ _ _ _ _ _ _ c.clear_numbers.ensures c.clear_numbers-2.ensures
     c.clear.ensures c.clear-2.ensures c.requires.starts_len.0 c.requires.starts_len.1 c.requires.starts_len.2 c.requires.starts_len.3
 
 pub cell_stencil-s-requires : goal.cell_stencil-s-requires
@@ -24,7 +23,7 @@ cell_stencil-s-requires c =
 
 pub start_of-requires : goal.start_of-requires
 start_of-requires c =
-    let room_at : c.in-Done.q.used ≤ c.args.records = roomy ((lent c.args.counts c.args.adjacency.now c.args.geometry.now c.args.heads.now c.args.places.now c.args.facing.now c.args.bordering.now c.args.codes.now c.args.values.now)) c.args.records c.loop-c.c c.loop-c.used c.loop-c.starts c.loop-c.equations c.loop-c.weights c.loop-c.inverses c.requires.buildable c.loop-c.invariant c.loop-c-test.true c.cell_stencil-s.result _ _ c.cell_stencil-s.ensures.built _ c.in-Done.is in
+    let room_at : c.in-Done.q.used ≤ c.args.records = roomy _ c.args.records c.loop-c.c c.loop-c.used c.loop-c.starts c.loop-c.equations c.loop-c.weights c.loop-c.inverses c.requires.buildable c.loop-c.invariant c.loop-c-test.true c.cell_stencil-s.result _ _ c.cell_stencil-s.ensures.built _ c.in-Done.is in
     omega (arith, room_at, c.requires.starts_len.4)
 
 pub offset_bounds-starts-c : goal.offset_bounds-starts-c
@@ -67,29 +66,29 @@ shape_of-inverses c =
 pub returns : goal.returns
 returns c =
     record {
-      built = accepted ((lent c.args.counts c.args.adjacency.now c.args.geometry.now c.args.heads.now c.args.places.now c.args.facing.now c.args.bordering.now c.args.codes.now c.args.values.now)) c.args.records c.loop-c.used c.loop-c.starts c.loop-c.equations c.loop-c.weights c.loop-c.inverses
-        (all_done ((lent c.args.counts c.args.adjacency.now c.args.geometry.now c.args.heads.now c.args.places.now c.args.facing.now c.args.bordering.now c.args.codes.now c.args.values.now)) c.args.records c.loop-c.c c.loop-c.used c.loop-c.starts c.loop-c.equations c.loop-c.weights c.loop-c.inverses c.loop-c.invariant c.loop-c-test.false);
+      built = accepted _ c.args.records c.loop-c.used c.loop-c.starts c.loop-c.equations c.loop-c.weights c.loop-c.inverses
+          (all_done _ c.args.records c.loop-c.c c.loop-c.used c.loop-c.starts c.loop-c.equations c.loop-c.weights c.loop-c.inverses c.loop-c.invariant c.loop-c-test.false);
     }
 
 pub returns-in-Failed : goal.returns-in-Failed
 returns-in-Failed c =
     record {
-      built = turned_away ((lent c.args.counts c.args.adjacency.now c.args.geometry.now c.args.heads.now c.args.places.now c.args.facing.now c.args.bordering.now c.args.codes.now c.args.values.now)) c.args.records _ _
-        (stop ((lent c.args.counts c.args.adjacency.now c.args.geometry.now c.args.heads.now c.args.places.now c.args.facing.now c.args.bordering.now c.args.codes.now c.args.values.now)) c.args.records c.loop-c.c c.loop-c.used c.loop-c.starts c.loop-c.equations c.loop-c.weights c.loop-c.inverses c.requires.buildable c.loop-c.invariant c.loop-c-test.true
-        c.cell_stencil-s.result _ _ c.cell_stencil-s.ensures.built _ _ c.in-Failed.is)
-        _ _ _ _ _ _ _ _ c.clear_numbers-in-Failed.ensures c.clear_numbers-in-Failed-2.ensures c.clear-in-Failed.ensures c.clear-in-Failed-2.ensures
-        c.loop-c.invariant.starts_size (c.cell_stencil-s.auto.equations ∙ c.loop-c.invariant.sized.numbers) (c.cell_stencil-s.auto.weights ∙ c.loop-c.invariant.sized.floats)
-        c.loop-c.invariant.inverses_size;
+      built = turned_away _ c.args.records _ _
+          (stop _ c.args.records c.loop-c.c c.loop-c.used c.loop-c.starts c.loop-c.equations c.loop-c.weights c.loop-c.inverses c.requires.buildable c.loop-c.invariant c.loop-c-test.true
+          c.cell_stencil-s.result _ _ c.cell_stencil-s.ensures.built _ _ c.in-Failed.is)
+          _ _ _ _ _ _ _ _ c.clear_numbers-in-Failed.ensures c.clear_numbers-in-Failed-2.ensures c.clear-in-Failed.ensures c.clear-in-Failed-2.ensures
+          c.loop-c.invariant.starts_size (c.cell_stencil-s.auto.equations ∙ c.loop-c.invariant.sized.numbers) (c.cell_stencil-s.auto.weights ∙ c.loop-c.invariant.sized.floats)
+          c.loop-c.invariant.inverses_size;
     }
 
 pub end_chain-requires : goal.end_chain-requires
 end_chain-requires c =
-    let room_at : c.in-Done.q.used ≤ c.args.records = roomy ((lent c.args.counts c.args.adjacency.now c.args.geometry.now c.args.heads.now c.args.places.now c.args.facing.now c.args.bordering.now c.args.codes.now c.args.values.now)) c.args.records c.loop-c.c c.loop-c.used c.loop-c.starts c.loop-c.equations c.loop-c.weights c.loop-c.inverses c.requires.buildable c.loop-c.invariant c.loop-c-test.true c.cell_stencil-s.result _ _ c.cell_stencil-s.ensures.built _ c.in-Done.is in
+    let room_at : c.in-Done.q.used ≤ c.args.records = roomy _ c.args.records c.loop-c.c c.loop-c.used c.loop-c.starts c.loop-c.equations c.loop-c.weights c.loop-c.inverses c.requires.buildable c.loop-c.invariant c.loop-c-test.true c.cell_stencil-s.result _ _ c.cell_stencil-s.ensures.built _ c.in-Done.is in
     fits (c.cell_stencil-s.auto.equations ∙ c.loop-c.invariant.sized.numbers) room_at
 
 pub loop-c-preserved : goal.loop-c-preserved
 loop-c-preserved c =
-    more ((lent c.args.counts c.args.adjacency.now c.args.geometry.now c.args.heads.now c.args.places.now c.args.facing.now c.args.bordering.now c.args.codes.now c.args.values.now)) c.args.records c.loop-c.c c.loop-c.used c.loop-c.starts c.loop-c.equations c.loop-c.weights c.loop-c.inverses c.requires.buildable c.loop-c.invariant c.loop-c-test.true
+    more _ c.args.records c.loop-c.c c.loop-c.used c.loop-c.starts c.loop-c.equations c.loop-c.weights c.loop-c.inverses c.requires.buildable c.loop-c.invariant c.loop-c-test.true
     c.cell_stencil-s.result _ _ c.cell_stencil-s.ensures.built _ c.in-Done.is (c.cell_stencil-s.auto.equations ∙ c.loop-c.invariant.sized.numbers)
     (c.cell_stencil-s.auto.weights ∙ c.loop-c.invariant.sized.floats) _ _ _ (rw c.start_of.ensures refl) c.end_chain.ensures
     c.put_nine.ensures

@@ -1,11 +1,6 @@
-use borrow.Author.Rules.{rules, scaled_Fits}
-use mathlib.Core.Path.{refl, sym, ◌∙◌}
-use Prim.Native.Nat.{◌-◌, ◌<◌, ◌≤◌}
-use native.Mathlib.Omega.{arith}
-use lib.ListN.{length}
-use Rattle.stencil.specs.Lent.{Lent, lent}
-use Rattle.stencil.proofs.inner.build.Laws.{nine_in, fits, falls}
-use Rattle.stencil.proofs.inner.build.Whole.{Pass, start, roomy, more, stop, all_done, accepted, turned_away}
+use Prim.Native.Nat.{◌-◌}
+use Rattle.stencil.specs.Lent.{lent}
+use Rattle.stencil.proofs.inner.build.Whole.{Pass}
 use Rattle.stencil.proofs.inner.build.least_squares_stencil.Given as goal
 
 abbrev pub invariant-loop-c : goal.invariant-loop-c

@@ -2,7 +2,6 @@ use Prim.Native.Nat.{◌+◌, ◌-◌, ◌<◌}
 use mathlib.Core.Path.{◌≡◌, sym, ◌∙◌}
 use native.Mathlib.Omega.{arith}
 use borrow.Author.Tests.{eq-eqb, ne_eqb}
-use borrow.Author.Rules.{rules}
 use Rattle.numerics.specs.Slices.{from_cell}
 use Rattle.stencil.specs.Cell.{offer}
 use Rattle.stencil.proofs.inner.build.Laws.{two_in, four_in, below-pred, after-pred, peer_face}
@@ -122,7 +121,7 @@ returns-then-q-eq0 c =
         c.sub.ensures,
         c.vector_at-there.ensures,
         c.vector_at-here.ensures,
-        );
+      );
     }
 
 pub returns-else-q-eq0 : goal.returns-else-q-eq0
@@ -139,7 +138,7 @@ returns-else-q-eq0 c =
         c.vector_at-here.ensures,
         c.first_of-o.ensures,
         c.second_of-q.ensures,
-        );
+      );
     }
 
 pub returns-then-o-c : goal.returns-then-o-c
@@ -155,7 +154,7 @@ returns-then-o-c c =
         c.vector_at-there-then-o-c.ensures,
         c.vector_at-here.ensures,
         c.second_of-n.ensures,
-        );
+      );
     }
 
 pub returns-else-o-c : goal.returns-else-o-c
@@ -169,5 +168,5 @@ returns-else-o-c c =
         c.vector_at-there-else-o-c.ensures,
         c.vector_at-here.ensures,
         c.first_of-o-else-n-eq0.ensures,
-        );
+      );
     }

@@ -1,7 +1,6 @@
 use native.Mathlib.Omega.{arith}
 use lib.ListN.{length-set}
 use mathlib.Core.Path.{refl}
-use borrow.Author.Rules.{rules}
 use Rattle.stencil.specs.Stencil.{put_nine}
 use Rattle.stencil.proofs.inner.build.put_nine.Goals as goal
 

@@ -1,7 +1,6 @@
 use native.Mathlib.Omega.{arith}
 use lib.ListN.{length-set}
 use mathlib.Core.Path.{refl}
-use borrow.Author.Rules.{rules}
 use Rattle.stencil.specs.Building.{record_numbers, record_weights}
 use Rattle.stencil.proofs.inner.build.put_record.Goals as goal
 

@@ -1,5 +1,4 @@
 use borrow.Author.Tests.{lt-ltb, le-ltb}
-use borrow.Author.Rules.{rules}
 use Rattle.stencil.specs.Stencil.{start_of}
 use Rattle.stencil.proofs.inner.build.start_of.Goals as goal
 

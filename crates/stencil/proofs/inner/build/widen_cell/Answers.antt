@@ -1,14 +1,12 @@
 use mathlib.Core.Path.{◌∙◌}
 use borrow.Author.Rules.{rules}
-use Rattle.stencil.specs.Lent.{Lent, lent}
-use Rattle.stencil.specs.Building.{Building, finish_of}
-use Rattle.stencil.specs.Cell.{extend, widened, widen, settle}
-use Rattle.stencil.proofs.inner.build.Laws.{held, then_on, then_out}
+use Rattle.stencil.specs.Building.{finish_of}
+use Rattle.stencil.specs.Cell.{widened, widen, settle}
+use Rattle.stencil.proofs.inner.build.Laws.{then_on, then_out}
 use Rattle.stencil.proofs.inner.build.widen_cell.Goals as goal
 
 pub add_ring-s-requires : goal.add_ring-s-requires
 add_ring-s-requires c = search rules
--- CLAUSES buildable c_lt_cells equations_len weights_len
 
 pub finish_cell-requires : goal.finish_cell-requires
 finish_cell-requires c =
@@ -23,19 +21,27 @@ pub returns-in-Halted : goal.returns-in-Halted
 unfolding widen
 returns-in-Halted c =
     record {
-      built = then_out (extend ((lent c.args.counts c.args.adjacency.now c.args.geometry.now c.args.heads.now c.args.places.now c.args.facing.now c.args.bordering.now c.args.codes.now c.args.values.now)) c.args.records c.args.c ((held c.args.p c.args.equations.now c.args.weights.now))) (widened ((lent c.args.counts c.args.adjacency.now c.args.geometry.now c.args.heads.now c.args.places.now c.args.facing.now c.args.bordering.now c.args.codes.now c.args.values.now)) c.args.records c.args.c) c.add_ring-s.result _ _ c.add_ring-s.ensures.built _ _ c.in-Halted.is;
+      built = then_out _ _ c.add_ring-s.result _ _ c.add_ring-s.ensures.built _ _ c.in-Halted.is;
     }
 
 pub returns-in-Inverse : goal.returns-in-Inverse
 unfolding widen widened settle finish_of
 returns-in-Inverse c =
     record {
-      built = rw (← then_on (extend ((lent c.args.counts c.args.adjacency.now c.args.geometry.now c.args.heads.now c.args.places.now c.args.facing.now c.args.bordering.now c.args.codes.now c.args.values.now)) c.args.records c.args.c ((held c.args.p c.args.equations.now c.args.weights.now))) (widened ((lent c.args.counts c.args.adjacency.now c.args.geometry.now c.args.heads.now c.args.places.now c.args.facing.now c.args.bordering.now c.args.codes.now c.args.values.now)) c.args.records c.args.c) c.add_ring-s.result _ _ c.add_ring-s.ensures.built _ c.in-Going.is, ← c.inverse_normal_matrix-i.ensures, c.in-Inverse.is);
+      built = rw (
+        ← then_on _ _ c.add_ring-s.result _ _ c.add_ring-s.ensures.built _ c.in-Going.is,
+        ← c.inverse_normal_matrix-i.ensures,
+        c.in-Inverse.is,
+      );
     }
 
 pub returns-in-Singular : goal.returns-in-Singular
 unfolding widen widened settle
 returns-in-Singular c =
     record {
-      built = rw (← then_on (extend ((lent c.args.counts c.args.adjacency.now c.args.geometry.now c.args.heads.now c.args.places.now c.args.facing.now c.args.bordering.now c.args.codes.now c.args.values.now)) c.args.records c.args.c ((held c.args.p c.args.equations.now c.args.weights.now))) (widened ((lent c.args.counts c.args.adjacency.now c.args.geometry.now c.args.heads.now c.args.places.now c.args.facing.now c.args.bordering.now c.args.codes.now c.args.values.now)) c.args.records c.args.c) c.add_ring-s.result _ _ c.add_ring-s.ensures.built _ c.in-Going.is, ← c.inverse_normal_matrix-i.ensures, c.in-Singular.is) c.finish_cell.ensures.built;
+      built = rw (
+        ← then_on _ _ c.add_ring-s.result _ _ c.add_ring-s.ensures.built _ c.in-Going.is,
+        ← c.inverse_normal_matrix-i.ensures,
+        c.in-Singular.is,
+      ) c.finish_cell.ensures.built;
     }

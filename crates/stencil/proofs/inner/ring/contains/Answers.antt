@@ -1,8 +1,6 @@
 use borrow.Author.Tests.{eq-eqb, ne_eqb}
-use mathlib.Core.Path.{◌≡◌, refl, sym, ◌∙◌}
+use mathlib.Core.Path.{refl, sym, ◌∙◌}
 use native.Mathlib.Omega.{arith}
-use lib.ListN.{length}
-use Rattle.chain.specs.Chains.{walk, Chain}
 use Rattle.stencil.specs.Ring.{elem}
 use Rattle.chain.proofs.Chains.{Onward, onward, walk_over, room}
 use Rattle.stencil.proofs.inner.ring.contains.Goals as goal

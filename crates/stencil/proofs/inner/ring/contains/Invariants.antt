@@ -1,10 +1,7 @@
-use borrow.Author.Tests.{eq-eqb, ne_eqb}
-use mathlib.Core.Path.{◌≡◌, refl, sym, ◌∙◌}
-use native.Mathlib.Omega.{arith}
+use mathlib.Core.Path.{◌≡◌}
 use lib.ListN.{length}
 use Rattle.chain.specs.Chains.{walk, Chain}
 use Rattle.stencil.specs.Ring.{elem}
-use Rattle.chain.proofs.Chains.{Onward, onward, walk_over, room}
 use Rattle.stencil.proofs.inner.ring.contains.Given as goal
 
 abbrev pub invariant-loop-r : goal.invariant-loop-r

@@ -1,9 +1,7 @@
-use mathlib.Core.Path.{◌≡◌, refl, sym, ◌∙◌}
+use mathlib.Core.Path.{refl, sym, ◌∙◌}
 use native.Mathlib.Omega.{arith}
-use lib.ListN.{length}
-use Rattle.chain.specs.Chains.{walk, Chain}
 use Rattle.chain.proofs.Chains.{Onward, onward, walk_over, room}
-use Rattle.stencil.specs.Ring.{ways, neighbours_of, lowest_all}
+use Rattle.stencil.specs.Ring.{lowest_all}
 use Rattle.stencil.proofs.inner.ring.next_in_ring.Goals as goal
 
 pub second_of-r-requires : goal.second_of-r-requires
@@ -57,5 +55,5 @@ unfolding lowest_all
 returns c =
     record {
       lowest = sym (rw (walk_over c.args.bordering.now c.args.counts.borderings c.loop-r.r c.loop-r-test.false))
-        ∙ c.loop-r.invariant.1;
+          ∙ c.loop-r.invariant.1;
     }

@@ -1,8 +1,6 @@
-use mathlib.Core.Path.{◌≡◌, refl, sym, ◌∙◌}
-use native.Mathlib.Omega.{arith}
+use mathlib.Core.Path.{◌≡◌}
 use lib.ListN.{length}
 use Rattle.chain.specs.Chains.{walk, Chain}
-use Rattle.chain.proofs.Chains.{Onward, onward, walk_over, room}
 use Rattle.stencil.specs.Ring.{ways, neighbours_of, lowest_all}
 use Rattle.stencil.proofs.inner.ring.next_in_ring.Given as goal
 

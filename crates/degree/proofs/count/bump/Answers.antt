@@ -1,0 +1,12 @@
+use mathlib.Core.Path.{sym}
+use native.Mathlib.Omega.{arith}
+use lib.Seq.{set_out}
+use borrow.Author.Rules.{rules}
+use Rattle.degree.proofs.count.bump.Goals as goal
+
+pub returns-then-cell-named : goal.returns-then-cell-named
+returns-then-cell-named c =
+    rw c.one_more.ensures
+
+pub returns-else-cell-named : goal.returns-else-cell-named
+returns-else-cell-named c = sym (set_out _ _ _ c.if-cell-named.false)

@@ -1,0 +1,6 @@
+use borrow.Author.Rules.{rules}
+use Rattle.step.proofs.fields_sized.Goals as goal
+
+pub returns : goal.returns
+returns c =
+    rw c.is_sized.ensures

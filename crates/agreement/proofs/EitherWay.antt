@@ -6,13 +6,11 @@ use lib.ListN.{length}
 use lib.Ieee.{Float}
 use Rattle.mesh.specs.Answers.{or_else}
 use Rattle.mesh.specs.Pass.{handed_out, if_refused}
-use Rattle.mesh.specs.Mesh.{Conditions}
 use Rattle.mesh.specs.declared.Answer.{Answer}
 use Rattle.mesh.specs.declared.Answer.TheVariants.{Accepted, Refused}
-use Rattle.mesh.specs.declared.Counts.{Counts}
 use Rattle.passes.proofs.Stages.{never_accepted}
 use Rattle.corrector.specs.Correction.{correction_answer, corrected_fluxes}
-use Rattle.simple.specs.Corrected.{Fields, correcting_by, correction_checks, CorrectionCall}
+use Rattle.simple.specs.Corrected.{correcting_by, correction_checks}
 use Rattle.agreement.specs.EitherWay.{Same, EitherWay}
 
 -- two outputs that hold the same unless the checks refuse

@@ -1,7 +1,7 @@
 -- The balance closes: what each cell's sum is off by, added over the cells. Assumes nothing.
 use mathlib.Core.Path.{◌≡◌, refl, sym, ap, ◌∙◌, subst}
 use mathlib.Core.List.{List}
-use Prim.Native.Nat.{ℕ, zero, suc, ◌+◌, ◌-◌, ◌*◌, ◌^◌, ◌≤◌, ◌<◌}
+use Prim.Native.Nat.{ℕ, zero, suc, ◌+◌, ◌*◌, ◌^◌, ◌≤◌, ◌<◌}
 use native.Mathlib.Nat.{le_trans, le_of_eq, le_refl, mul-le-mul_right, zero-mul}
 use native.Mathlib.Omega.{arith}
 use lib.Dec.{T}
@@ -16,7 +16,7 @@ use Rattle.binary64.specs.Units.{signed_count, total, exact_total}
 use Rattle.binary64.proofs.Laws.{summation}
 use Rattle.numerics.specs.Outflow.{Faces, faces_of, terms, scatter, outflows, Flows, flux_at}
 use Rattle.numerics.proofs.Scatter.{length-scatter, sums_its_terms}
-use Rattle.balance.specs.Balance.{one_cell_fluxes, bound, allowance, NearTerms, NearWhole, Balanced}
+use Rattle.balance.specs.Balance.{one_cell_fluxes, bound, allowance, NearTerms, Balanced}
 use Rattle.balance.proofs.Sums.{triangle, apart, sum_to, sum-take}
 use Rattle.balance.proofs.Terms.{fit_terms, own_finite}
 use Rattle.balance.proofs.Telescope.{cell_sum, telescope}

@@ -1,5 +1,5 @@
 -- The sum of two values that fit, as whole numbers of units: it is within one part in 2 ^ prec of the exact sum, and no farther from it than either operand is in size. Assumes nothing.
-use Rattle.std.proofs.Common.{◌≡◌, ℕ, zero, ◌+◌, ◌-◌, ◌*◌, ◌^◌, ◌<◌, ◌≤◌, Bool, true, false, cond, not, ◌&&◌, T, ltb, ◌⊎◌, sym, refl, ap, ◌∙◌, inl, inr, le_trans, le_of_eq, le_of_lt, mul-le-mul_right, mul_assoc, mul_comm, mul-pos, mul_right_comm, le_of_mul-le-mul_right, arith, ltb→lt, nltb→le}
+use Rattle.std.proofs.Common.{◌≡◌, ℕ, ◌+◌, ◌-◌, ◌*◌, ◌^◌, ◌<◌, ◌≤◌, Bool, true, false, cond, not, ◌&&◌, T, ltb, ◌⊎◌, sym, refl, ap, ◌∙◌, inl, inr, le_trans, le_of_eq, le_of_lt, mul-le-mul_right, mul_assoc, mul_comm, mul-pos, mul_right_comm, le_of_mul-le-mul_right, arith, ltb→lt, nltb→le}
 use native.Mathlib.Nat.{mul-sub}
 use lib.Ieee.{Float, nan, inf, fin, Format, prec, low, up, down, round, sum, add, fits}
 use lib.Ieee.Fits.{two, two-le_pos, down_pos}

@@ -1,10 +1,10 @@
 -- What a program's tests say of a float, and which bit patterns are no NaN's. Assumes nothing.
-use Rattle.std.proofs.Common.{◌≡◌, ℕ, ◌*◌, ◌%◌, ◌<◌, ◌≤◌, Bool, true, false, not, ◌&&◌, ◌||◌, T, eqb, sym, refl, ap, ◌∙◌, subst, true≢false, le_trans}
+use Rattle.std.proofs.Common.{◌≡◌, ℕ, ◌*◌, ◌%◌, ◌≤◌, Bool, true, false, not, ◌&&◌, ◌||◌, T, eqb, sym, refl, ap, ◌∙◌, subst, true≢false, le_trans}
 use mathlib.Core.Bool.{beq}
 use native.Mathlib.Nat.{mod-le}
 use lib.Dec.{eqb_refl}
 use lib.Arith.{le→nltb}
-use lib.Ieee.{Float, nan, inf, fin, binary64, up, down, ones, hid, top, eq, ne, is_nan, of_bits, nan_bits}
+use lib.Ieee.{Float, nan, inf, fin, binary64, up, down, top, eq, ne, is_nan, of_bits, nan_bits}
 use lib.Ieee.Bits.{is_true, nan_bits_is, nan_bits_above}
 
 pub no_nan_bits : (n : ℕ) → n ≤ 0x7ff0_0000_0000_0000 → T (not (nan_bits binary64 n))

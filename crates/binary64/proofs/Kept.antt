@@ -1,5 +1,5 @@
 -- The results of the crate's functions are values of the format. Those of +, -, *, / and negation are by `lib.Ieee.Fits`. Assumes nothing.
-use Rattle.std.proofs.Common.{ℕ, zero, suc, ◌+◌, ◌-◌, ◌*◌, ◌/◌, ◌^◌, ◌<◌, ◌≤◌, Bool, true, false, cond, not, T, ltb, le_trans, lt_of_le_of_lt, arith, ltb→lt}
+use Rattle.std.proofs.Common.{ℕ, zero, suc, ◌+◌, ◌-◌, ◌*◌, ◌/◌, ◌^◌, ◌<◌, ◌≤◌, Bool, true, false, cond, T, ltb, le_trans, lt_of_le_of_lt, arith, ltb→lt}
 use Prim.Native.Nat.{compare}
 use lib.Pow.{pow-lt}
 use lib.Ieee.{Float, nan, inf, fin, Format, prec, emax, low, up, down, size, nearest, odd, units, lt, is_nan, fits}

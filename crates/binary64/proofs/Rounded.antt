@@ -1,5 +1,5 @@
 -- Sums, differences and products of values given in units, as the exact result to prec digits, where that is far below the infinities. Assumes nothing.
-use Rattle.std.proofs.Common.{◌≡◌, ℕ, zero, suc, ◌+◌, ◌-◌, ◌*◌, ◌/◌, ◌^◌, ◌<◌, ◌≤◌, Bool, true, false, cond, not, ◌&&◌, T, ltb, ◌⊎◌, sym, refl, ap, ◌∙◌, subst, inl, inr, true≢false, zero-le, le_trans, le_of_eq, lt_of_le_of_lt, le_of_lt, mul-le-mul_right, mul_assoc, mul_comm, eq-zero-or-pos, mul-le-mul_left, mul-pos, zero-mul, mul-one, mul_right_comm, le_of_mul-le-mul_right, arith, ltb→lt, nltb→le, pow_pos, pow_mono}
+use Rattle.std.proofs.Common.{◌≡◌, ℕ, suc, ◌+◌, ◌-◌, ◌*◌, ◌^◌, ◌<◌, ◌≤◌, Bool, true, false, cond, not, ◌&&◌, T, ltb, sym, ap, ◌∙◌, subst, inl, inr, zero-le, le_trans, lt_of_le_of_lt, le_of_lt, mul-le-mul_right, mul_assoc, eq-zero-or-pos, mul-le-mul_left, mul-pos, zero-mul, mul_right_comm, le_of_mul-le-mul_right, arith, ltb→lt, nltb→le, pow_pos, pow_mono}
 use native.Mathlib.Nat.{mul-mul-mul_comm, eq_of_mul-eq-mul_right}
 use lib.Ieee.{Float, nan, inf, fin, Format, prec, emax, low, up, down, unlike, round, sum, add, sub, mul, neg, le}
 use lib.Ieee.Exact.{HasValue, units_val}

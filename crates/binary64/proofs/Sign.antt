@@ -1,5 +1,5 @@
 -- The operations and the sign: a product is odd in each factor, and a sum is odd but for the sign of a zero. Assumes nothing.
-use Rattle.std.proofs.Common.{◌≡◌, ℕ, zero, suc, ◌+◌, ◌-◌, ◌*◌, ◌/◌, ◌^◌, ◌<◌, ◌≤◌, Bool, true, false, cond, not, T, eqb, ltb, ◌⊎◌, ℤ, pos, negsuc, neg_ℤ, sym, refl, ap, ◌∙◌, subst, inl, inr, lt_irrefl, eq-zero-or-pos, mul-pos, one-mul, zero-mul, mul-one, arith, eqb→eq, nltb→le, pow_pos}
+use Rattle.std.proofs.Common.{◌≡◌, ℕ, zero, suc, ◌+◌, ◌-◌, ◌*◌, ◌/◌, ◌^◌, ◌<◌, ◌≤◌, Bool, true, false, cond, not, T, eqb, ltb, ℤ, pos, negsuc, neg_ℤ, sym, refl, ap, ◌∙◌, subst, inl, inr, lt_irrefl, eq-zero-or-pos, mul-pos, one-mul, zero-mul, mul-one, arith, eqb→eq, nltb→le, pow_pos}
 use native.Mathlib.Nat.{zero-div}
 use lib.IntN.{neg_ℤ-neg_ℤ}
 use lib.Ieee.{Float, nan, inf, fin, Format, prec, emax, low, up, down, size, unlike, odd, units as make, round, neg, sum, add, sub, mul, fits}

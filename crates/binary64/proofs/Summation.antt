@@ -1,6 +1,5 @@
 -- A sum of n terms from the left is within (n - 1) parts in 2 ^ prec of the exact sum, the parts being of the sum of the sizes (Jeannerod and Rump, 2013). Assumes nothing.
-use Rattle.std.proofs.Common.{◌≡◌, ℕ, suc, ◌+◌, ◌-◌, ◌*◌, ◌/◌, ◌^◌, ◌<◌, ◌≤◌, true, false, T, List, [], ◌∷◌, length, sym, refl, ap, ◌∙◌, subst, inl, inr, le_trans, le_of_eq, add-zero, le_of_lt, add_assoc, mul-le-mul_right, mul_assoc, mul-le-mul_left, zero-add, zero-mul, le_of_mul-le-mul_right, arith, pow_pos}
-use native.Mathlib.Nat.{zero-div}
+use Rattle.std.proofs.Common.{◌≡◌, ℕ, suc, ◌+◌, ◌-◌, ◌*◌, ◌^◌, ◌<◌, ◌≤◌, true, false, T, List, [], ◌∷◌, length, sym, refl, ap, ◌∙◌, subst, inl, inr, le_trans, le_of_eq, add-zero, le_of_lt, add_assoc, mul-le-mul_right, mul_assoc, mul-le-mul_left, zero-add, zero-mul, le_of_mul-le-mul_right, arith, pow_pos}
 use lib.Ieee.{Float, nan, inf, fin, Format, binary32, binary64, prec, add, fits, of_bits}
 use lib.Ieee.Bits.{of_bits-fits}
 use lib.Ieee.Fits.{add-fits}

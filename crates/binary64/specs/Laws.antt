@@ -4,7 +4,7 @@ use lib.Ieee.{Float, fin, binary64, up, down, neg, add, sub, mul, fits}
 use Rattle.std.specs.Float.Ieee.Scale.{finite}
 use Rattle.binary64.specs.Numbers.{zero64, is_usable, magnitude, larger}
 use Rattle.binary64.specs.Root.{root, Nearest}
-use Rattle.binary64.specs.Units.{count, signed_count, total, exact_total, total_count, AllFit, AllFinite, Alike, Opposite}
+use Rattle.binary64.specs.Units.{count, signed_count, total, exact_total, total_count, AllFit, AllFinite, Opposite}
 
 -- ---- a value in units
 

@@ -1,5 +1,5 @@
 -- Tests on floats and choices among them, as the functions of the crate make them. Definitions only.
-use Rattle.std.specs.Prelude.{Bool, true, false, cond, not, ◌&&◌, is_nan, Float}
+use Rattle.std.specs.Prelude.{Bool, false, cond, not, ◌&&◌, is_nan, Float}
 use Rattle.std.specs.Float.{nan, inf, fin, binary64}
 use Rattle.std.specs.Float.Ieee as Ieee
 use Rattle.std.specs.Float.Ieee.Scale.{finite}

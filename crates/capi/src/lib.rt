@@ -7,7 +7,7 @@ ghost use Rattle.binary64.specs.Root.{root};
 ghost use Rattle.mesh.specs.Answers.{number_of, index_of};
 ghost use Rattle.mesh.specs.Lent.{mesh_lent, conditions_lent};
 ghost use Rattle.mesh.specs.declared.Answer.{Answer};
-ghost use Rattle.numerics.specs.Slices.{slices_before, slices_after};
+ghost use Rattle.numerics.specs.Slices.{slices, slices_before, slices_after};
 ghost use Rattle.numerics.specs.Gradient.{GradientCall};
 ghost use Rattle.numerics.specs.Outflow.{OutflowCall, Scattered};
 ghost use Rattle.stencil.specs.Checks.{StencilCall};
@@ -83,7 +83,7 @@ pub extern "C" fn juvandeer_least_squares_stencil(
 ) -> u64
     ensures told { let m = mesh_lent counts adjacency geometry heads places facing bordering in
         let k = conditions_lent number codes values in
-        let old = slices_before starts equations weights inverses in
+        let old = slices starts.old equations.old weights.old inverses.old in
         let new = slices_after starts equations weights inverses in
         Told (λ (a : Answer). StencilCall m k records old a new) result index.new }
 {

@@ -1,5 +1,5 @@
 -- Chains of records of two numbers, an item and the next record. Records count from 1, and 0 ends a chain. Definitions only.
-use Rattle.std.specs.Prelude.{◌≡◌, List, [], ◌∷◌, Bool, true, false, not, ◌&&◌, ◌||◌, cond, ℕ, zero, suc, ◌+◌, ◌-◌, ◌/◌, ◌≤◌, ◌<◌, eqb, leb, ltb, length, get_or}
+use Rattle.std.specs.Prelude.{◌≡◌, List, [], ◌∷◌, Bool, true, not, ◌&&◌, ◌||◌, cond, ℕ, zero, suc, ◌+◌, ◌-◌, ◌/◌, ◌≤◌, ◌<◌, eqb, leb, ltb, length, get_or}
 use Rattle.chain.specs.Pairs.{first_at, second_at}
 use Rattle.chain.specs.Search.{lowest_where}
 use Rattle.chain.specs.declared.Found.{Found}

@@ -2,13 +2,13 @@
 use mathlib.Core.Path.{◌≡◌, refl, sym, ap, ◌∙◌, subst}
 use mathlib.Core.List.{List}
 use mathlib.Core.Bool.{Bool, true, false, not, ◌&&◌, cond}
-use Prim.Native.Nat.{ℕ, zero, suc, ◌-◌, ◌<◌}
+use Prim.Native.Nat.{ℕ, suc, ◌-◌, ◌<◌}
 use native.Mathlib.Omega.{arith}
 use lib.Dec.{T, eqb-suc-zero}
 use lib.ListN.{length, get_or}
-use lib.Ieee.{Float, nan, binary64, sub, mul, le}
+use lib.Ieee.{Float, nan, binary64, le}
 use lib.Ieee.Scale.{finite}
-use Rattle.binary64.specs.Numbers.{zero64, is_finite, is_usable, ◌⊖◌, ◌⊗◌}
+use Rattle.binary64.specs.Numbers.{zero64, is_finite, ◌⊖◌, ◌⊗◌}
 use Rattle.binary64.specs.Units.{Opposite}
 use Rattle.binary64.proofs.Opposites.{sub_swap, sub_opposed, mul_opposed}
 use Rattle.chain.specs.Pairs.{first_at, second_at}

@@ -5,12 +5,11 @@ use mathlib.Core.Bool.{Bool, true, false, not, ◌&&◌, cond}
 use Prim.Native.Nat.{ℕ, zero, suc, ◌+◌, ◌-◌, ◌/◌, ◌<◌, ◌≤◌}
 use native.Mathlib.Omega.{arith}
 use native.Mathlib.Nat.{le_trans}
-use native.Mathlib.Numerals.{add-one, sub-one}
-use borrow.Author.Tests.{ltb-true, ltb-false, lt-ltb, le-ltb, le-leb, eqb-true, eq-eqb, ne_eqb}
+use native.Mathlib.Numerals.{sub-one}
+use borrow.Author.Tests.{ltb-true, ltb-false, lt-ltb, le-ltb, le-leb, eqb-true, ne_eqb}
 use lib.Dec.{eqb, leb, ltb, eqb-suc-zero}
 use lib.ListN.{length}
 use Rattle.chain.specs.Pairs.{first_at, second_at}
-use Rattle.chain.specs.Search.{lowest_where}
 use Rattle.chain.specs.Chains.{item_of, next_of, ends, walk, head_at, cell_count, broken_cell, lowest_broken}
 use Rattle.chain.specs.declared.Found.TheVariants.{Nothing, At}
 use Rattle.chain.specs.declared.walk.Form.TheVariants.{First}

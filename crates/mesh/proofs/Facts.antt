@@ -1,20 +1,19 @@
 -- What the checks establish once they pass. Assumes nothing.
-use mathlib.Core.Path.{◌≡◌, refl, sym, ap, ◌∙◌}
+use mathlib.Core.Path.{◌≡◌, refl, sym, ap}
 use mathlib.Core.Logic.{inl, inr}
 use mathlib.Core.List.{List, [], ◌∷◌}
 use mathlib.Core.Bool.{Bool, true, false, not, cond}
-use Prim.Native.Nat.{ℕ, zero, suc, ◌+◌, ◌-◌, ◌*◌, ◌/◌, ◌≤◌, ◌<◌}
+use Prim.Native.Nat.{ℕ, zero, suc, ◌+◌, ◌-◌, ◌*◌, ◌/◌, ◌≤◌}
 use native.Mathlib.Nat.{eq-zero-or-pos}
 use native.Mathlib.Omega.{arith}
 use lib.Dec.{eqb, leb, ltb}
 use lib.ListN.{length, get_or}
 use borrow.Author.Tests.{eqb-true, eqb-false, ltb-true, ltb-false, leb-true, leb-false, not-false}
 use Rattle.mesh.specs.Answers.{or_else, first_of, pass, at, shape}
-use Rattle.chain.specs.Search.{some_of, lowest_where}
 use Rattle.mesh.specs.Checks.{size_tests, sizes_ok, bad_face, lowest_bad_face, unknown_code, lowest_unknown_code, bad_link, lowest_bad_link}
 use Rattle.chain.specs.Chains.{ends, head_at, cell_count, broken_cell, lowest_broken}
 use Rattle.mesh.specs.Records.{owner_at, neighbour_at, peer_at}
-use Rattle.mesh.specs.Facts.{Small, CellsOf, FacesIn, CodesIn, ChainsIn, LinkOf, LinksIn}
+use Rattle.mesh.specs.Facts.{Small, FacesIn, CodesIn, ChainsIn, LinkOf, LinksIn}
 use Rattle.mesh.specs.declared.Counts.{Counts}
 use Rattle.mesh.specs.declared.Answer.{Answer}
 use Rattle.mesh.specs.declared.Answer.TheVariants.{Accepted, Refused}

@@ -1,14 +1,13 @@
 -- Where every check of a mesh passes, what later functions read by is in range. Assumes nothing.
-use mathlib.Core.Path.{◌≡◌, refl, subst}
-use mathlib.Core.List.{List, [], ◌∷◌}
-use mathlib.Core.Bool.{Bool, true, ◌&&◌}
+use mathlib.Core.Path.{◌≡◌, subst}
+use mathlib.Core.List.{List}
+use mathlib.Core.Bool.{true, ◌&&◌}
 use Prim.Native.Nat.{ℕ, ◌*◌, ◌/◌, ◌<◌}
 use native.Mathlib.Omega.{arith}
 use lib.Dec.{eqb}
 use lib.ListN.{length}
 use borrow.Author.Tests.{eqb-true}
-use Rattle.mesh.specs.Answers.{pass, at, or_else, first_of}
-use Rattle.chain.specs.Search.{lower}
+use Rattle.mesh.specs.Answers.{pass, at, first_of}
 use Rattle.mesh.specs.Checks.{sizes_ok, lowest_bad_face, lowest_unknown_code, lowest_bad_link}
 use Rattle.chain.specs.Chains.{lowest_broken, Chain}
 use Rattle.mesh.specs.Records.{first_facing, first_bordering}

@@ -1,5 +1,5 @@
 -- The checks 1, 4 and 6 of docs/REFUSALS.md. Definitions only.
-use Rattle.std.specs.Prelude.{◌≡◌, List, [], ◌∷◌, Bool, true, false, not, ◌||◌, cond, ℕ, ◌+◌, ◌-◌, ◌/◌, eqb, leb, ltb, length}
+use Rattle.std.specs.Prelude.{List, [], ◌∷◌, Bool, true, false, not, ◌||◌, cond, ℕ, ◌+◌, ◌-◌, ◌/◌, eqb, leb, ltb, length}
 use Rattle.chain.specs.Search.{every_of, some_of, lowest_where}
 use Rattle.mesh.specs.Records.{owner_at, neighbour_at, code_at, peer_at}
 use Rattle.mesh.specs.declared.Counts.{Counts}

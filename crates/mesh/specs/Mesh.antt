@@ -3,7 +3,7 @@ use Rattle.std.specs.Prelude.{◌≡◌, List, [], ◌∷◌, Bool, ◌&&◌, �
 use Rattle.mesh.specs.Answers.{pass, at, first_of}
 use Rattle.chain.specs.Search.{every_of, lower}
 use Rattle.mesh.specs.Checks.{sizes_ok, lowest_bad_face, lowest_unknown_code, lowest_bad_link}
-use Rattle.chain.specs.Chains.{lowest_broken, Chain, head_at}
+use Rattle.chain.specs.Chains.{lowest_broken, Chain}
 use Rattle.mesh.specs.Facts.{Small, CellsOf, LinkOf}
 use Rattle.mesh.specs.Records.{peer_at, first_facing, first_bordering}
 use Rattle.mesh.specs.declared.Answer.{Answer}

@@ -2,7 +2,7 @@
 use Rattle.std.specs.Prelude.{List, [], ◌∷◌, Bool, ℕ, ◌+◌, ◌*◌, eqb, length, Float}
 use Rattle.chain.specs.Chains.{item_of}
 use Rattle.chain.specs.Search.{every_of}
-use Rattle.mesh.specs.Lent.{Slice}
+use Rattle.mesh.specs.Lent.{Slice, MutSlice}
 
 -- the lengths of a stencil's slices
 pub record Lengths : Type 0 where
@@ -35,11 +35,11 @@ slices s e w i = record { starts = s; equations = e; weights = w; inverses = i }
 abbrev pub lengths_of : Slices → Lengths
 lengths_of s = lengths (length s.starts) (length s.equations) (length s.weights) (length s.inverses)
 
--- from the slices as a clause names them, at the call and after it
+-- from the slices as a clause names them, at the call, and after a call that writes them
 abbrev pub slices_before : Slice ℕ → Slice ℕ → Slice Float → Slice Float → Slices
 slices_before s e w i = slices s.entry.now e.entry.now w.entry.now i.entry.now
 
-abbrev pub slices_after : Slice ℕ → Slice ℕ → Slice Float → Slice Float → Slices
+abbrev pub slices_after : MutSlice ℕ → MutSlice ℕ → MutSlice Float → MutSlice Float → Slices
 slices_after s e w i = slices s.exit.now e.exit.now w.exit.now i.exit.now
 
 -- where the other value of an equation comes from: the cell's own for a zero normal derivative, the equation's own, or that of the cell c

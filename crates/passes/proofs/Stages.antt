@@ -6,7 +6,7 @@ use Prim.Native.Nat.{ℕ, ◌+◌, ◌<◌, ◌≤◌, zero-le}
 use native.Mathlib.Omega.{arith}
 use native.Mathlib.Nat.{le_antisymm}
 use native.Mathlib.Numerals.{add-one, add-one-le}
-use lib.ListN.{length, take, set, length-set, replicate}
+use lib.ListN.{length, take, length-set}
 use lib.Seq.{take-suc-set, take_all}
 use lib.Ieee.{Float}
 use Rattle.mesh.specs.Answers.{or_else}

@@ -11,7 +11,8 @@ use borrow.Author.Tests.{lt-ltb, le-ltb, ltb-true, ltb-false}
 use lib.Dec.{ltb}
 use lib.ListN.{length, get_or, take, length-append, get_or-append}
 use lib.Seq.{get_or_at, take-suc, get_or-take}
-use Rattle.pattern.specs.Text.{Digit, hex_text, hex_digit_ascii, last_digits}
+use Rattle.io.specs.Digits.{hex_digit_ascii, last_digits}
+use Rattle.pattern.specs.Text.{Digit, hex_text}
 
 pub glyph_low : (d : ℕ) → d < 10 → hex_digit_ascii d ≡ 48 + d
 glyph_low d h = simp (lt-ltb d 10 h)

@@ -1,16 +1,8 @@
--- Hex digits as text.
-use Rattle.std.specs.Prelude.{ℕ, zero, suc, ◌+◌, ◌/◌, ◌%◌, ◌≤◌, ◌<◌, ◌≡◌, cond, List, [], ◌∷◌, ◌++◌, nat_lt}
+-- Hex digits as text. `hex_digit_ascii d` is the ASCII code of the hex digit d, and `last_digits 16 k n` the text of n's last k hex digits.
+use Rattle.std.specs.Prelude.{ℕ, ◌≤◌, ◌<◌, ◌≡◌, List}
+use Rattle.io.specs.Digits.{hex_digit_ascii, last_digits}
 use Rattle.pattern.specs.declared.Hex.{Hex}
 use Rattle.pattern.specs.declared.Hex.TheVariants.{Number, Other}
-
--- The ASCII code of the hex digit d.
-abbrev pub hex_digit_ascii : ℕ → ℕ
-hex_digit_ascii d = cond (nat_lt d 10) (48 + d) (87 + d)
-
--- The text of the last k digits of n in base b, the most significant first.
-abbrev pub last_digits : ℕ → ℕ → ℕ → List ℕ
-last_digits b zero n = []
-last_digits b (suc k) n = last_digits b k (n / b) ++ (hex_digit_ascii (n % b) ∷ [])
 
 -- d is the digit whose code is b, or 16 where b is the code of none.
 pub record Digit (b d : ℕ) : Type 0 where

@@ -1,8 +1,8 @@
 -- A face between two cells, read part by part, comes to its definition. Assumes nothing.
-use mathlib.Core.Path.{◌≡◌, refl, sym, ◌∙◌, ap}
+use mathlib.Core.Path.{◌≡◌, ◌∙◌}
 use mathlib.Core.List.{List}
 use mathlib.Core.Bool.{false}
-use Prim.Native.Nat.{ℕ, ◌-◌, ◌*◌}
+use Prim.Native.Nat.{ℕ, ◌-◌}
 use lib.Dec.{eqb}
 use lib.ListN.{get_or}
 use lib.Ieee.{Float, nan}

@@ -15,7 +15,7 @@ use Rattle.mesh.specs.declared.Outcome.{Outcome}
 use Rattle.mesh.specs.declared.Outcome.TheVariants.{Value}
 use Rattle.chain.specs.declared.walk.Form.TheVariants.{Single}
 use Rattle.numerics.specs.Slices.{Slices, lengths_of, stencil_sized, from_cell}
-use Rattle.numerics.specs.Gradient.{gradients, Sloped}
+use Rattle.numerics.specs.Gradient.{gradients}
 use Rattle.coupling.specs.Face.{distances, side, predicted_flux}
 use Rattle.coupling.specs.declared.Side.{Side}
 use Rattle.predictor.specs.Coefficients.{internal_at}

@@ -1,8 +1,6 @@
 -- An accepted step meets demand 3. Assumes nothing.
-use mathlib.Core.Path.{◌≡◌, refl, sym, ap, ◌∙◌, subst}
-use mathlib.Core.List.{List}
-use mathlib.Core.Bool.{Bool, true, false, not}
-use Prim.Native.Nat.{ℕ, suc, ◌*◌, ◌-◌, ◌<◌, ◌≤◌}
+use mathlib.Core.Path.{◌≡◌, refl, sym, subst}
+use Prim.Native.Nat.{ℕ, ◌<◌}
 use native.Mathlib.Omega.{arith}
 use lib.Dec.{T}
 use lib.ListN.{length, get_or}
@@ -10,7 +8,7 @@ use lib.Ieee.{Float, nan, binary64, fits}
 use lib.Ieee.Scale.{finite}
 use borrow.Author.Tests.{not-false}
 use Rattle.binary64.specs.Numbers.{is_finite}
-use Rattle.mesh.specs.Answers.{or_else, first_of}
+use Rattle.mesh.specs.Answers.{first_of}
 use Rattle.chain.specs.Search.{lowest_where}
 use Rattle.mesh.specs.declared.Answer.TheVariants.{Accepted}
 use Rattle.chain.specs.declared.Found.{Found}
@@ -29,8 +27,8 @@ use Rattle.corrector.specs.Correction.{corrected_flux_at, correction_answer}
 use Rattle.corrector.specs.Metrics.{metrics_of, metrics_answer}
 use Rattle.predictor.specs.Prediction.{prediction_answer}
 use Rattle.corrector.specs.Promise.{Boundary, Promise, boundary_of}
-use Rattle.corrector.proofs.Promised.{promised, with_given, carried}
-use Rattle.scheme.specs.Step.{Inputs, Lendable, grid_of, flow_of, predicted_of, coefficients_of, correcting_of, fluxes_of, outflows_of, spilled, endless, finite_answer, work_answer}
+use Rattle.corrector.proofs.Promised.{promised, carried}
+use Rattle.scheme.specs.Step.{Inputs, Lendable, grid_of, flow_of, predicted_of, correcting_of, fluxes_of, outflows_of, spilled, endless, finite_answer, work_answer}
 use Rattle.scheme.specs.Demand.{walls_of, DemandThree}
 use Rattle.scheme.proofs.Fitting.{value_fits}
 use Rattle.scheme.proofs.Parts.{predicted_size, fluxes_size, outflows_size, wall_kept, below, correctable, flows}

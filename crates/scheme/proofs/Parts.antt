@@ -25,7 +25,7 @@ use Rattle.predictor.specs.Boundary.{Bounded, Begun, boundary_answer, boundary_c
 use Rattle.corrector.specs.Correction.{Correcting, correcting, Correctable, corrected_flux_at, correction_answer, corrected_fluxes}
 use Rattle.predictor.specs.Coefficients.{coefficient_answer, coefficients}
 use Rattle.coupling.specs.Grid.{Grid, Coupled}
-use Rattle.corrector.specs.Metrics.{metrics_of, metrics_answer, metrics_numbers}
+use Rattle.corrector.specs.Metrics.{metrics_of, metrics_answer}
 use Rattle.predictor.specs.Prediction.{Flow, flow, Flowing, predicted_at, prediction_answer, predicted_fluxes}
 use Rattle.scheme.specs.Step.{Inputs, Lendable, grid_of, stencil_of, gradient_of, flow_of, predicted_of, coefficients_of, correcting_of, fluxes_of, outflows_of, finite_answer, work_answer}
 

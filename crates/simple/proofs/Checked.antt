@@ -2,23 +2,18 @@
 use mathlib.Core.Path.{◌≡◌, sym, ◌∙◌}
 use mathlib.Core.List.{List}
 use mathlib.Core.Bool.{true, ◌&&◌}
-use Prim.Native.Nat.{ℕ, ◌+◌, ◌*◌, ◌≤◌, ◌<◌}
+use Prim.Native.Nat.{ℕ, ◌*◌, ◌≤◌}
 use native.Mathlib.Omega.{arith}
-use lib.Dec.{eqb, leb}
+use lib.Dec.{eqb}
 use lib.ListN.{length}
 use lib.Ieee.{Float}
 use borrow.Author.Tests.{eqb-true}
-use Rattle.mesh.specs.Answers.{first_of}
-use Rattle.chain.specs.Chains.{lowest_broken}
-use Rattle.mesh.specs.Checks.{largest_count, sizes_ok, lowest_bad_face, lowest_unknown_code, lowest_bad_link}
+use Rattle.mesh.specs.Checks.{largest_count, lowest_bad_face, lowest_unknown_code, lowest_bad_link}
 use Rattle.mesh.specs.Facts.{FacesIn, LinksIn}
 use Rattle.mesh.specs.Mesh.{Conditions, bounds_of, conditions_sized, links}
-use Rattle.chain.specs.Search.{lower}
 use Rattle.mesh.specs.declared.Answer.{Answer}
 use Rattle.mesh.specs.declared.Answer.TheVariants.{Accepted}
 use Rattle.mesh.specs.declared.Counts.{Counts}
-use Rattle.chain.specs.declared.Found.TheVariants.{Nothing}
-use Rattle.chain.specs.declared.walk.Form.TheVariants.{Single}
 use Rattle.mesh.proofs.Facts.{all_accepted, passed, nothing_at, small, faces_in, links_in, peer_below}
 use Rattle.chain.proofs.Search.{none_lower}
 use Rattle.chain.proofs.Truth.{and_true, every_at}

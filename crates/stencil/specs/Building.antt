@@ -1,6 +1,6 @@
 -- A stencil as it is built: the records so far, in the slices that they are handed out in, and the normal matrix of the cell under way. Definitions only.
 use Rattle.std.specs.Prelude.{List, [], ◌∷◌, cond, ℕ, ◌+◌, ◌*◌, ltb, set, Float}
-use Rattle.mesh.specs.Lent.{Slice}
+use Rattle.mesh.specs.Lent.{MutSlice}
 use Rattle.vector.specs.declared.Vec3.{Vec3}
 use Rattle.matrix.specs.declared.Normal.{Normal}
 use Rattle.stencil.specs.declared.inner.build.Equation.{Equation}
@@ -86,11 +86,11 @@ finish_of (Failed k i) e w = stopped k i
 finish_of (Done s) e w = going (solved s.used e w s.inverse)
 
 -- from the slices as a clause names them, at the call and after it
-abbrev pub building_before : Progress → Slice ℕ → Slice Float → Building
+abbrev pub building_before : Progress → MutSlice ℕ → MutSlice Float → Building
 building_before p e w = building p.used e.entry.now w.entry.now p.normal
 
-abbrev pub course_after : Stage → Slice ℕ → Slice Float → Course Building
+abbrev pub course_after : Stage → MutSlice ℕ → MutSlice Float → Course Building
 course_after s e w = course_of s e.exit.now w.exit.now
 
-abbrev pub finish_after : Finish → Slice ℕ → Slice Float → Course Solved
+abbrev pub finish_after : Finish → MutSlice ℕ → MutSlice Float → Course Solved
 finish_after s e w = finish_of s e.exit.now w.exit.now

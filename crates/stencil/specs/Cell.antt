@@ -19,7 +19,7 @@ use Rattle.std.specs.Float.Ieee as Ieee
 
 -- ---- what a face gives a cell
 
--- a one_Cell face without a link, by its condition; `away` is its centre as seen from the cell's
+-- a one-cell face without a link, by its condition; `away` is its centre as seen from the cell's
 unfoldable pub wall : Condition → Vec3 → Offer
 wall Absent away = Missing
 wall (Fixed v) away = Difference from_value away v
@@ -43,11 +43,11 @@ across_link l c f =
 -- what the face f gives the cell c: by its neighbour, else by its link, else by its condition
 unfoldable pub offer : Lent → ℕ → ℕ → Offer
 offer l c f =
-    let one_Cell = eqb (neighbour_at l.mesh.adjacency f) 0 in
+    let one_cell = eqb (neighbour_at l.mesh.adjacency f) 0 in
     let unlinked = eqb (peer_at l.bounds.codes f) 0 in
     let away = difference (face_centre l.mesh.geometry f) (centre l.mesh.places c) in
     let condition = condition_at l.bounds.codes l.bounds.values f in
-    cond one_Cell (cond unlinked (wall condition away) (across_link l c f)) (across_face l c f)
+    cond one_cell (cond unlinked (wall condition away) (across_link l c f)) (across_face l c f)
 
 -- ---- the faces of the cell
 

@@ -3,7 +3,7 @@
 
 ghost use Rattle.std.specs.Prelude.{◌≡◌};
 ghost use Rattle.mesh.specs.Lent.{mesh_lent, conditions_lent};
-ghost use Rattle.numerics.specs.Slices.{lengths, slices_before, slices_after};
+ghost use Rattle.numerics.specs.Slices.{lengths, slices, slices_after};
 ghost use Rattle.stencil.specs.Checks.{stencil_checks, StencilCall};
 
 use mesh::{Answer, Counts};
@@ -72,7 +72,7 @@ pub fn least_squares_stencil(
 ) -> Answer
     ensures call { let m = mesh_lent counts adjacency geometry heads places facing bordering in
         let k = conditions_lent number codes values in
-        let before = slices_before starts equations weights inverses in
+        let before = slices starts.old equations.old weights.old inverses.old in
         StencilCall m k records before result (slices_after starts equations weights inverses) }
 {
     let a = check_stencil(

@@ -6,7 +6,7 @@ ghost use Rattle.std.specs.Prelude.{◌≡◌};
 ghost use Rattle.mesh.specs.Lent.{mesh_lent, conditions_lent};
 ghost use Rattle.scheme.specs.Demand.{Demanded};
 ghost use Rattle.step.specs.Call.{fields_sized, outputs_sized, step_checks, StepCall};
-ghost use Rattle.step.specs.Lent.{inputs_lent, outputs_before, outputs_after};
+ghost use Rattle.step.specs.Lent.{inputs_lent, outputs_lent, outputs_before, outputs_after};
 
 use mesh::{Answer, Counts};
 
@@ -45,7 +45,7 @@ fn outputs_sized(
     outflow: &[f64],
     metrics: &[f64],
 ) -> bool
-    ensures sized { let old = outputs_before starts equations weights inverses gradient predicted coefficients flux outflow metrics in
+    ensures sized { let old = outputs_lent starts equations weights inverses gradient predicted coefficients flux outflow metrics in
         result ≡ outputs_sized counts records old }
 {
     numerics::stencil_sized(
@@ -99,7 +99,7 @@ fn check_step(
     ensures checked { let m = mesh_lent counts adjacency geometry heads places facing bordering in
         let k = conditions_lent number codes values in
         let d = inputs_lent m k records velocity velocities pressure pressures response responses wall walls correction corrections in
-        let old = outputs_before starts equations weights inverses gradient predicted coefficients flux outflow metrics in
+        let old = outputs_lent starts equations weights inverses gradient predicted coefficients flux outflow metrics in
         result ≡ step_checks d old }
 {
     let sized = mesh::mesh_sized(

@@ -1,4 +1,3 @@
-use Rattle.std.proofs.Common.{rules}
 use Rattle.binary64.proofs.far.Goals as goal
 
 pub returns-then-finite : goal.returns-then-finite

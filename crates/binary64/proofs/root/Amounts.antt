@@ -1,7 +1,6 @@
 -- The whole numbers behind the test that settles a root (`Settled.antt`): how far y - g * g is from what is left of it after rounding. Assumes nothing.
-use Rattle.std.proofs.Common.{◌≡◌, ℕ, zero, suc, ◌+◌, ◌-◌, ◌*◌, ◌/◌, ◌%◌, ◌^◌, ◌<◌, ◌≤◌, Bool, true, false, cond, not, ◌⊎◌, sym, refl, ap, ◌∙◌, subst, inl, inr, le_trans, le_of_eq, lt_of_lt_of_le, lt_of_le_of_lt, le_of_lt, mul-le-mul_right, mul_assoc, mul_comm, mul-le-mul, lt_of_mul-lt-mul_right, mul-le-mul_left, mul-lt-mul_of_pos_right, mul-pos, not-le_of_lt, le_of_mul-le-mul_right, arith, lit≤}
-use native.Mathlib.Nat.{mul-mul-mul_comm, eq_of_mul-eq-mul_right}
-use Rattle.binary64.specs.Significand.{Near}
+use Rattle.std.proofs.Common.{◌≡◌, ℕ, ◌+◌, ◌*◌, ◌^◌, ◌<◌, ◌≤◌, Bool, true, false, cond, not, sym, ap, ◌∙◌, inl, inr, le_trans, le_of_eq, lt_of_lt_of_le, lt_of_le_of_lt, mul-le-mul_right, mul_assoc, mul_comm, arith, lit≤}
+use native.Mathlib.Nat.{mul-mul-mul_comm}
 use Rattle.binary64.proofs.Rounded.{Off}
 use Rattle.binary64.proofs.Grid.{under_or_from}
 use Rattle.binary64.proofs.root.Squares.{square_lt}

@@ -1,16 +1,14 @@
 -- `root` gives the nearest value: it is above zero, and the root of x is between the middles around it, for every x that is finite and above zero. Assumes nothing.
-use Rattle.std.proofs.Common.{◌≡◌, ℕ, zero, suc, ◌+◌, ◌-◌, ◌*◌, ◌/◌, ◌%◌, ◌^◌, ◌<◌, ◌≤◌, Bool, true, false, T, ◌⊎◌, sym, refl, ap, ◌∙◌, subst, inl, inr, le_trans, le_of_eq, lt_of_lt_of_le, lt_of_le_of_lt, le_of_lt, mul-le-mul_right, mul_assoc, mul_comm, add-mul, mul-le-mul, eq-or-lt_of_le, mul-le-mul_left, mul-lt-mul_of_pos_right, mul-pos, lt_of_not-le, mul-div_cancel, add-one, arith, lit≤, pow_pos}
+use Rattle.std.proofs.Common.{◌≡◌, ℕ, zero, suc, ◌+◌, ◌-◌, ◌*◌, ◌/◌, ◌%◌, ◌^◌, ◌<◌, ◌≤◌, false, T, ◌⊎◌, sym, ap, ◌∙◌, subst, inl, inr, le_trans, le_of_eq, lt_of_lt_of_le, lt_of_le_of_lt, mul-le-mul_right, mul_assoc, mul_comm, add-mul, eq-or-lt_of_le, mul-le-mul_left, mul-lt-mul_of_pos_right, mul-pos, lt_of_not-le, add-one, arith, lit≤, pow_pos}
 use native.Mathlib.Nat.{mul-mul-mul_comm}
 use lib.Count.{count_leading_zeros}
-use lib.Ieee.{Float, nan, inf, fin, binary64, up, down, odd, size, fits, of_bits, to_bits}
+use lib.Ieee.{Float, binary64, odd, size, fits, of_bits, to_bits}
 use lib.Ieee.Bits.{of_bits-to_bits}
-use lib.Ieee.Digits.{odd_val}
-use lib.Ieee.Fits.{down_pos}
-use lib.Ieee.Exact.{HasValue, odd_sign}
+use lib.Ieee.Exact.{odd_sign}
 use native.Mathlib.Decide.{dec_le}
 use Rattle.binary64.specs.Numbers.{is_usable}
 use Rattle.lines.specs.Lines.{whole_root}
-use Rattle.binary64.specs.Root.{nearest_root, root, root_in, Nearest}
+use Rattle.binary64.specs.Root.{nearest_root, root, Nearest}
 use Rattle.binary64.specs.Significand.{Near}
 use Rattle.binary64.specs.Units.{count}
 use Rattle.binary64.proofs.Value.{count_of}

@@ -2,7 +2,7 @@
 use Rattle.std.proofs.Common.{◌≡◌, ℕ, ◌+◌, ◌-◌, ◌*◌, ◌/◌, ◌%◌, ◌^◌, ◌<◌, ◌≤◌, false, not, T, sym, refl, ap, ◌∙◌, subst, mul-le-mul_right, mul_assoc, arith, lit≤, pow-add}
 use lib.Arith.{digits_mod}
 use lib.Ieee.{Float, nan, inf, fin, binary64, add, sub, mul, neg, le, is_nan, of_bits}
-use lib.Ieee.Exact.{HasValue, odd_sign}
+use lib.Ieee.Exact.{odd_sign}
 use Rattle.binary64.specs.Root.{nearest_root}
 use Rattle.binary64.specs.Significand.{Near, Start, RootBits, rest, margin}
 use Rattle.binary64.proofs.root.Settled.{Value, Tested, settled}

@@ -1,15 +1,14 @@
 -- `nearest_root` at a number w that is M * 2 ^ k * 2 ^ k: it is the whole number nearest to the root of M, times 2 ^ k smallest values. Assumes nothing.
-use Rattle.std.proofs.Common.{◌≡◌, ℕ, zero, suc, ◌+◌, ◌-◌, ◌*◌, ◌/◌, ◌%◌, ◌^◌, ◌<◌, ◌≤◌, Bool, true, false, cond, not, T, ltb, leb, ◌⊎◌, ℤ, sym, refl, ap, ◌∙◌, subst, inl, inr, zero-le, le_trans, le_of_eq, lt_of_lt_of_le, le_of_suc-le-suc, lt_of_le_of_lt, le_of_lt, lt_irrefl, mul-le-mul_right, zero-lt-suc, mul_assoc, mul_comm, div-lt_iff_lt-mul, mul-le-mul, le_antisymm, lt_of_mul-lt-mul_right, eq-or-lt_of_le, mul-le-mul_left, mul-lt-mul_of_pos_right, mul-pos, pow-suc, lt_of_not-le, zero-add, mul-suc, not-le_of_lt, div-mul-le_self, le_of_mul-le-mul_right, mul-div_cancel, add-one, arith, lit≤, eqb→eq, lt→ltb, leb→le, pow_pos, pow_mono, pow-add, shl_lt}
+use Rattle.std.proofs.Common.{◌≡◌, ℕ, zero, suc, ◌+◌, ◌-◌, ◌*◌, ◌/◌, ◌%◌, ◌^◌, ◌<◌, ◌≤◌, Bool, true, false, cond, not, T, ltb, leb, ◌⊎◌, ℤ, sym, refl, ap, ◌∙◌, subst, inl, inr, zero-le, le_trans, le_of_eq, lt_of_lt_of_le, le_of_suc-le-suc, lt_of_le_of_lt, le_of_lt, lt_irrefl, mul-le-mul_right, zero-lt-suc, mul_assoc, div-lt_iff_lt-mul, mul-le-mul, le_antisymm, lt_of_mul-lt-mul_right, eq-or-lt_of_le, mul-le-mul_left, mul-lt-mul_of_pos_right, mul-pos, pow-suc, lt_of_not-le, zero-add, mul-suc, not-le_of_lt, div-mul-le_self, le_of_mul-le-mul_right, mul-div_cancel, add-one, arith, lit≤, eqb→eq, lt→ltb, leb→le, pow_pos, pow_mono, pow-add, shl_lt}
 use Prim.Native.Nat.{compare, Ordering}
-use native.Mathlib.Nat.{mul-mul-mul_comm, lt_of_mul-lt-mul_left, add-sub_cancel_left}
+use native.Mathlib.Nat.{mul-mul-mul_comm, lt_of_mul-lt-mul_left}
 use native.Mathlib.Numerals.{lt-add-one}
 use lib.Dec.{is_le, compare_is_eq, nleb→lt}
-use lib.Pow.{pow-lt}
 use lib.Count.{count_trailing_zeros}
-use lib.Ieee.{Float, inf, fin, binary64, prec, low, up, down, minus, size, nearest, odd, units, fits, hid, to_bits, of_bits}
+use lib.Ieee.{inf, fin, binary64, up, down, minus, size, nearest, odd, units, to_bits, of_bits}
 use lib.Ieee.Digits.{odd_val, size-lt, size-le}
 use lib.Ieee.Fits.{down_pos, odd-fits}
-use lib.Ieee.Bits.{is_true, of_bits-to_bits}
+use lib.Ieee.Bits.{of_bits-to_bits}
 use Rattle.lines.specs.Lines.{whole_root}
 use Rattle.binary64.specs.Root.{nearest_root}
 use Rattle.binary64.specs.Significand.{Near}

@@ -1,17 +1,17 @@
 -- The test that settles a root in floating point: with s near the root, and a number of 26 digits, so that its square is exact,
 -- y - g * g is (y - s * s) - (g - s) * (s + g), of which only the last digits are lost. Assumes nothing.
-use Rattle.std.proofs.Common.{◌≡◌, ℕ, zero, suc, ◌+◌, ◌-◌, ◌*◌, ◌/◌, ◌%◌, ◌^◌, ◌<◌, ◌≤◌, Bool, true, false, cond, not, T, ◌⊎◌, sym, refl, ap, ◌∙◌, subst, inl, inr, le_trans, le_of_eq, lt_of_lt_of_le, lt_of_le_of_lt, le_of_lt, mul-le-mul_right, mul_assoc, mul_comm, mul-le-mul, lt_of_mul-lt-mul_right, mul-le-mul_left, mul-lt-mul_of_pos_right, mul-pos, lt_of_not-le, mul-add, mul_right_comm, not-le_of_lt, le_of_mul-le-mul_right, arith, lit≤, pow_pos, pow_mono, pow-add, shl_lt}
-use native.Mathlib.Nat.{mul-mul-mul_comm, eq_of_mul-eq-mul_right}
+use Rattle.std.proofs.Common.{◌≡◌, ℕ, suc, ◌+◌, ◌-◌, ◌*◌, ◌^◌, ◌<◌, ◌≤◌, Bool, true, false, cond, not, T, sym, refl, ap, ◌∙◌, subst, inl, inr, le_trans, le_of_eq, lt_of_lt_of_le, lt_of_le_of_lt, le_of_lt, mul-le-mul_right, mul_assoc, mul_comm, mul-le-mul, lt_of_mul-lt-mul_right, mul-le-mul_left, mul-pos, lt_of_not-le, mul-add, mul_right_comm, not-le_of_lt, le_of_mul-le-mul_right, arith, lit≤, pow_pos, pow_mono, pow-add, shl_lt}
+use native.Mathlib.Nat.{mul-mul-mul_comm}
 use lib.Pow.{pow-lt}
-use lib.Ieee.{Float, binary64, unlike, size, add, sub, mul, le, of_bits}
+use lib.Ieee.{Float, binary64, unlike, size, add, sub, mul, le}
 use lib.Ieee.Digits.{size-lt}
 use lib.Ieee.Exact.{HasValue, odd_sign}
 use lib.Ieee.Nearest.{closest}
 use Rattle.binary64.specs.Significand.{Near, rest, margin}
 use Rattle.binary64.proofs.Parts.{gap}
-use Rattle.binary64.proofs.Grid.{cut, Short, half_off, under_or_from}
+use Rattle.binary64.proofs.Grid.{half_off, under_or_from}
 use Rattle.binary64.proofs.Rounded.{Off, Sum, Small, kept, kept_off, kept_short, kept_le, kept_pos, at_most, mul_value, add_value, sub_value, le_value}
-use Rattle.binary64.proofs.root.Amounts.{Within, Left, near_sides, under_square, rest_of, rest_small, triangle}
+use Rattle.binary64.proofs.root.Amounts.{Within, near_sides, under_square, rest_of, rest_small}
 use Rattle.binary64.proofs.root.Returned.{square_at, digits_of}
 use Rattle.binary64.proofs.root.Rounding.{of_bits-at}
 use Rattle.binary64.proofs.root.Squares.{square_lt}

@@ -1,5 +1,5 @@
 -- Squares of whole numbers, and one turn of the root by digits. Assumes nothing.
-use Rattle.std.proofs.Common.{◌≡◌, ℕ, zero, suc, ◌+◌, ◌-◌, ◌*◌, ◌/◌, ◌%◌, ◌^◌, ◌<◌, ◌≤◌, Bool, true, false, cond, not, T, sym, refl, ap, ◌∙◌, subst, lt_of_lt_of_le, lt_of_le_of_lt, add-zero, le_of_lt, mul-le-mul_right, mul_assoc, mul_comm, add-mul, mul-le-mul, mul-le-mul_left, mul-lt-mul_of_pos_right, pow-suc, mul-add, mul_right_comm, mul-div_cancel, mul_left_comm, add-one, arith, pow_pos, pow_mono}
+use Rattle.std.proofs.Common.{◌≡◌, ℕ, zero, suc, ◌+◌, ◌-◌, ◌*◌, ◌/◌, ◌%◌, ◌^◌, ◌<◌, ◌≤◌, Bool, true, false, cond, not, T, sym, refl, ap, ◌∙◌, subst, lt_of_lt_of_le, lt_of_le_of_lt, add-zero, le_of_lt, mul_assoc, mul_comm, add-mul, mul-le-mul, mul-le-mul_left, mul-lt-mul_of_pos_right, pow-suc, mul-add, mul_right_comm, mul-div_cancel, add-one, arith, pow_pos, pow_mono}
 use native.Mathlib.Nat.{mul-mul-mul_comm}
 use lib.Arith.{digits_div}
 use Rattle.binary64.specs.Significand.{Near}

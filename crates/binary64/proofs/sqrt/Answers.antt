@@ -1,6 +1,6 @@
-use Rattle.std.proofs.Common.{◌≡◌, ℕ, ◌+◌, ◌-◌, ◌*◌, ◌/◌, ◌%◌, ◌^◌, ◌<◌, ◌≤◌, Bool, not, T, sym, refl, ap, ◌∙◌, subst, lt_of_lt_of_le, mod-eq_of_lt, arith, lit≤, rules}
+use Rattle.std.proofs.Common.{◌≡◌, ℕ, ◌-◌, ◌*◌, ◌%◌, ◌^◌, ◌<◌, ◌≤◌, T, sym, refl, ap, ◌∙◌, subst, lt_of_lt_of_le, mod-eq_of_lt, arith, lit≤, rules}
 use lib.Count.{count_leading_zeros}
-use lib.Ieee.{Float, nan, binary64, fits, is_nan, div, of_bits, to_bits}
+use lib.Ieee.{nan, binary64, fits, div, of_bits, to_bits}
 use lib.Ieee.Bits.{of_bits-to_bits, to_bits-lt}
 use lib.Ieee.Compare.{differs_from_itself}
 use Rattle.binary64.specs.Root.{root, nearest_root}
@@ -23,15 +23,15 @@ float_to_bits-b c = equal_no_nan c.args.x c.if-x.false
 pub returns-then-b-le9223372036854775808 : goal.returns-then-b-le9223372036854775808
 returns-then-b-le9223372036854775808 c =
     let held : T (fits binary64 c.args.x) = subst T (sym c.well_formed.0.1) tt in
-    let back : of_bits binary64 ((to_bits binary64 c.args.x)) ≡ c.args.x = of_bits-to_bits binary64 c.args.x held in
-    of_ends c.args.x ((to_bits binary64 c.args.x)) back (equal_no_nan c.args.x c.if-x.false) c.if-b-ge9218868437227405312.true c.if-b-le9223372036854775808.true
+    let back : of_bits binary64 (to_bits binary64 c.args.x) ≡ c.args.x = of_bits-to_bits binary64 c.args.x held in
+    of_ends c.args.x (to_bits binary64 c.args.x) back (equal_no_nan c.args.x c.if-x.false) c.if-b-ge9218868437227405312.true c.if-b-le9223372036854775808.true
 
 pub returns-then-b-ge9218868437227405312 : goal.returns-then-b-ge9218868437227405312
 returns-then-b-ge9218868437227405312 c =
     let held : T (fits binary64 c.args.x) = subst T (sym c.well_formed.0.1) tt in
-    let back : of_bits binary64 ((to_bits binary64 c.args.x)) ≡ c.args.x = of_bits-to_bits binary64 c.args.x held in
+    let back : of_bits binary64 (to_bits binary64 c.args.x) ≡ c.args.x = of_bits-to_bits binary64 c.args.x held in
     let bits_lt : (to_bits binary64 c.args.x) < 2 ^ 64 = to_bits-lt binary64 c.args.x held in
-    zero_over_zero ∙ sym (negative ((to_bits binary64 c.args.x)) c.if-b-le9223372036854775808.false bits_lt) ∙ ap (root) back
+    zero_over_zero ∙ sym (negative (to_bits binary64 c.args.x) c.if-b-le9223372036854775808.false bits_lt) ∙ ap (root) back
 
 pub normal-requires : goal.normal-requires
 normal-requires c = search rules
@@ -41,54 +41,54 @@ normal-requires c = search rules
 pub returns-then-b-ge4503599627370496 : goal.returns-then-b-ge4503599627370496
 returns-then-b-ge4503599627370496 c =
     let held : T (fits binary64 c.args.x) = subst T (sym c.well_formed.0.1) tt in
-    let back : of_bits binary64 ((to_bits binary64 c.args.x)) ≡ c.args.x = of_bits-to_bits binary64 c.args.x held in
-    c.normal.ensures ∙ sym (normal ((to_bits binary64 c.args.x)) c.if-b-ge4503599627370496.true c.if-b-ge9218868437227405312.false) ∙ ap (root) back
+    let back : of_bits binary64 (to_bits binary64 c.args.x) ≡ c.args.x = of_bits-to_bits binary64 c.args.x held in
+    c.normal.ensures ∙ sym (normal (to_bits binary64 c.args.x) c.if-b-ge4503599627370496.true c.if-b-ge9218868437227405312.false) ∙ ap (root) back
 
 pub returns-then-b-eq0 : goal.returns-then-b-eq0
 returns-then-b-eq0 c =
     let held : T (fits binary64 c.args.x) = subst T (sym c.well_formed.0.1) tt in
-    let back : of_bits binary64 ((to_bits binary64 c.args.x)) ≡ c.args.x = of_bits-to_bits binary64 c.args.x held in
-    of_zero c.args.x ((to_bits binary64 c.args.x)) back c.if-b-eq0.true
+    let back : of_bits binary64 (to_bits binary64 c.args.x) ≡ c.args.x = of_bits-to_bits binary64 c.args.x held in
+    of_zero c.args.x (to_bits binary64 c.args.x) back c.if-b-eq0.true
 
 pub overflow_cast-z : goal.overflow_cast-z
 overflow_cast-z c =
-    let some : 0 < (((to_bits binary64 c.args.x))) = omega arith in
-    let below : (((to_bits binary64 c.args.x))) < 2 ^ 52 = c.if-b-ge4503599627370496.false in
-    let shifted : (12 ≤ count_leading_zeros 64 (((to_bits binary64 c.args.x)))) × (count_leading_zeros 64 (((to_bits binary64 c.args.x))) ≤ 63) × (2 ^ 52 ≤ (((to_bits binary64 c.args.x))) * 2 ^ ((count_leading_zeros 64 (((to_bits binary64 c.args.x))) - 11))) × ((((to_bits binary64 c.args.x))) * 2 ^ ((count_leading_zeros 64 (((to_bits binary64 c.args.x))) - 11)) < 2 ^ 53) = shift_of (((to_bits binary64 c.args.x))) some below in
+    let some : 0 < (to_bits binary64 c.args.x) = omega arith in
+    let below : (to_bits binary64 c.args.x) < 2 ^ 52 = c.if-b-ge4503599627370496.false in
+    let shifted : (12 ≤ count_leading_zeros 64 (to_bits binary64 c.args.x)) × (count_leading_zeros 64 (to_bits binary64 c.args.x) ≤ 63) × (2 ^ 52 ≤ (to_bits binary64 c.args.x) * 2 ^ (count_leading_zeros 64 (to_bits binary64 c.args.x) - 11)) × ((to_bits binary64 c.args.x) * 2 ^ (count_leading_zeros 64 (to_bits binary64 c.args.x) - 11) < 2 ^ 53) = shift_of (to_bits binary64 c.args.x) some below in
     omega (arith, shifted)
 
 pub overflow_sub-z : goal.overflow_sub-z
 overflow_sub-z c =
-    let some : 0 < (((to_bits binary64 c.args.x))) = omega arith in
-    let below : (((to_bits binary64 c.args.x))) < 2 ^ 52 = c.if-b-ge4503599627370496.false in
-    let shifted : (12 ≤ count_leading_zeros 64 (((to_bits binary64 c.args.x)))) × (count_leading_zeros 64 (((to_bits binary64 c.args.x))) ≤ 63) × (2 ^ 52 ≤ (((to_bits binary64 c.args.x))) * 2 ^ ((count_leading_zeros 64 (((to_bits binary64 c.args.x))) - 11))) × ((((to_bits binary64 c.args.x))) * 2 ^ ((count_leading_zeros 64 (((to_bits binary64 c.args.x))) - 11)) < 2 ^ 53) = shift_of (((to_bits binary64 c.args.x))) some below in
+    let some : 0 < (to_bits binary64 c.args.x) = omega arith in
+    let below : (to_bits binary64 c.args.x) < 2 ^ 52 = c.if-b-ge4503599627370496.false in
+    let shifted : (12 ≤ count_leading_zeros 64 (to_bits binary64 c.args.x)) × (count_leading_zeros 64 (to_bits binary64 c.args.x) ≤ 63) × (2 ^ 52 ≤ (to_bits binary64 c.args.x) * 2 ^ (count_leading_zeros 64 (to_bits binary64 c.args.x) - 11)) × ((to_bits binary64 c.args.x) * 2 ^ (count_leading_zeros 64 (to_bits binary64 c.args.x) - 11) < 2 ^ 53) = shift_of (to_bits binary64 c.args.x) some below in
     omega (arith, shifted)
 
 pub overflow_shl-b : goal.overflow_shl-b
 overflow_shl-b c =
-    let some : 0 < (((to_bits binary64 c.args.x))) = omega arith in
-    let below : (((to_bits binary64 c.args.x))) < 2 ^ 52 = c.if-b-ge4503599627370496.false in
-    let shifted : (12 ≤ count_leading_zeros 64 (((to_bits binary64 c.args.x)))) × (count_leading_zeros 64 (((to_bits binary64 c.args.x))) ≤ 63) × (2 ^ 52 ≤ (((to_bits binary64 c.args.x))) * 2 ^ ((count_leading_zeros 64 (((to_bits binary64 c.args.x))) - 11))) × ((((to_bits binary64 c.args.x))) * 2 ^ ((count_leading_zeros 64 (((to_bits binary64 c.args.x))) - 11)) < 2 ^ 53) = shift_of (((to_bits binary64 c.args.x))) some below in
+    let some : 0 < (to_bits binary64 c.args.x) = omega arith in
+    let below : (to_bits binary64 c.args.x) < 2 ^ 52 = c.if-b-ge4503599627370496.false in
+    let shifted : (12 ≤ count_leading_zeros 64 (to_bits binary64 c.args.x)) × (count_leading_zeros 64 (to_bits binary64 c.args.x) ≤ 63) × (2 ^ 52 ≤ (to_bits binary64 c.args.x) * 2 ^ (count_leading_zeros 64 (to_bits binary64 c.args.x) - 11)) × ((to_bits binary64 c.args.x) * 2 ^ (count_leading_zeros 64 (to_bits binary64 c.args.x) - 11) < 2 ^ 53) = shift_of (to_bits binary64 c.args.x) some below in
     omega (arith, shifted)
 
 pub overflow_sub-z-2 : goal.overflow_sub-z-2
 overflow_sub-z-2 c =
-    let some : 0 < (((to_bits binary64 c.args.x))) = omega arith in
-    let below : (((to_bits binary64 c.args.x))) < 2 ^ 52 = c.if-b-ge4503599627370496.false in
-    let shifted : (12 ≤ count_leading_zeros 64 (((to_bits binary64 c.args.x)))) × (count_leading_zeros 64 (((to_bits binary64 c.args.x))) ≤ 63) × (2 ^ 52 ≤ (((to_bits binary64 c.args.x))) * 2 ^ ((count_leading_zeros 64 (((to_bits binary64 c.args.x))) - 11))) × ((((to_bits binary64 c.args.x))) * 2 ^ ((count_leading_zeros 64 (((to_bits binary64 c.args.x))) - 11)) < 2 ^ 53) = shift_of (((to_bits binary64 c.args.x))) some below in
+    let some : 0 < (to_bits binary64 c.args.x) = omega arith in
+    let below : (to_bits binary64 c.args.x) < 2 ^ 52 = c.if-b-ge4503599627370496.false in
+    let shifted : (12 ≤ count_leading_zeros 64 (to_bits binary64 c.args.x)) × (count_leading_zeros 64 (to_bits binary64 c.args.x) ≤ 63) × (2 ^ 52 ≤ (to_bits binary64 c.args.x) * 2 ^ (count_leading_zeros 64 (to_bits binary64 c.args.x) - 11)) × ((to_bits binary64 c.args.x) * 2 ^ (count_leading_zeros 64 (to_bits binary64 c.args.x) - 11) < 2 ^ 53) = shift_of (to_bits binary64 c.args.x) some below in
     omega (arith, shifted)
 
 pub returns : goal.returns
 returns c =
     let held : T (fits binary64 c.args.x) = subst T (sym c.well_formed.0.1) tt in
-    let back : of_bits binary64 ((to_bits binary64 c.args.x)) ≡ c.args.x = of_bits-to_bits binary64 c.args.x held in
-    let some : 0 < (((to_bits binary64 c.args.x))) = omega arith in
-    let below : (((to_bits binary64 c.args.x))) < 2 ^ 52 = c.if-b-ge4503599627370496.false in
-    let shifted : (12 ≤ count_leading_zeros 64 (((to_bits binary64 c.args.x)))) × (count_leading_zeros 64 (((to_bits binary64 c.args.x))) ≤ 63) × (2 ^ 52 ≤ (((to_bits binary64 c.args.x))) * 2 ^ ((count_leading_zeros 64 (((to_bits binary64 c.args.x))) - 11))) × ((((to_bits binary64 c.args.x))) * 2 ^ ((count_leading_zeros 64 (((to_bits binary64 c.args.x))) - 11)) < 2 ^ 53) = shift_of (((to_bits binary64 c.args.x))) some below in
-    let as_is : ((((to_bits binary64 c.args.x))) * 2 ^ ((count_leading_zeros 64 (((to_bits binary64 c.args.x))) - 11))) % 2 ^ 64 ≡ (((to_bits binary64 c.args.x))) * 2 ^ ((count_leading_zeros 64 (((to_bits binary64 c.args.x))) - 11)) = mod-eq_of_lt (lt_of_lt_of_le shifted.3 (lit≤ tt)) in
+    let back : of_bits binary64 (to_bits binary64 c.args.x) ≡ c.args.x = of_bits-to_bits binary64 c.args.x held in
+    let some : 0 < (to_bits binary64 c.args.x) = omega arith in
+    let below : (to_bits binary64 c.args.x) < 2 ^ 52 = c.if-b-ge4503599627370496.false in
+    let shifted : (12 ≤ count_leading_zeros 64 (to_bits binary64 c.args.x)) × (count_leading_zeros 64 (to_bits binary64 c.args.x) ≤ 63) × (2 ^ 52 ≤ (to_bits binary64 c.args.x) * 2 ^ (count_leading_zeros 64 (to_bits binary64 c.args.x) - 11)) × ((to_bits binary64 c.args.x) * 2 ^ (count_leading_zeros 64 (to_bits binary64 c.args.x) - 11) < 2 ^ 53) = shift_of (to_bits binary64 c.args.x) some below in
+    let as_is : ((to_bits binary64 c.args.x) * 2 ^ (count_leading_zeros 64 (to_bits binary64 c.args.x) - 11)) % 2 ^ 64 ≡ (to_bits binary64 c.args.x) * 2 ^ (count_leading_zeros 64 (to_bits binary64 c.args.x) - 11) = mod-eq_of_lt (lt_of_lt_of_le shifted.3 (lit≤ tt)) in
     c.scaled.ensures
-    ∙ ap (λ (a : ℕ). nearest_root binary64 (a * 2 ^ (1074 - (count_leading_zeros 64 (((to_bits binary64 c.args.x))) - 11)))) as_is
-    ∙ sym (subnormal (((to_bits binary64 c.args.x))) ((count_leading_zeros 64 (((to_bits binary64 c.args.x))) - 11)) some below (omega (arith, shifted)))
+    ∙ ap (λ (a : ℕ). nearest_root binary64 (a * 2 ^ (1074 - (count_leading_zeros 64 (to_bits binary64 c.args.x) - 11)))) as_is
+    ∙ sym (subnormal (to_bits binary64 c.args.x) (count_leading_zeros 64 (to_bits binary64 c.args.x) - 11) some below (omega (arith, shifted)))
     ∙ ap (root) back
 
 pub scaled-requires : goal.scaled-requires

@@ -1,5 +1,5 @@
-use Rattle.std.proofs.Common.{◌≡◌, T, ltb, leb, sym, subst, arith, ltb→lt, leb→le, rules}
-use lib.Ieee.{binary64, fits, to_bits}
+use Rattle.std.proofs.Common.{T, ltb, leb, sym, subst, arith, ltb→lt, leb→le}
+use lib.Ieee.{binary64, to_bits}
 use lib.Ieee.Bits.{of_bits-to_bits}
 use lib.Ieee.Fits.{and_l, and_r}
 use Rattle.binary64.proofs.root.Returned.{root_guessed, guess_number}

@@ -1,6 +1,5 @@
 use borrow.Author.Tests.{lt-ltb, le-ltb}
 use Rattle.chain.specs.Search.{lower}
-use borrow.Author.Rules.{rules}
 use Rattle.chain.proofs.lower_of.Goals as goal
 
 pub returns-in-Nothing : goal.returns-in-Nothing

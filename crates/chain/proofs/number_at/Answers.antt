@@ -1,6 +1,5 @@
 use mathlib.Core.Path.{sym}
 use lib.ListN.{get_or-eq_default}
-use borrow.Author.Rules.{rules}
 use Rattle.chain.proofs.number_at.Goals as goal
 
 pub returns-else-i-s : goal.returns-else-i-s

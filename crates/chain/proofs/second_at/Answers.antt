@@ -1,7 +1,6 @@
 use mathlib.Core.Path.{sym}
 use native.Mathlib.Omega.{arith}
 use lib.ListN.{get_or-eq_default}
-use borrow.Author.Rules.{rules}
 use Rattle.chain.proofs.second_at.Goals as goal
 
 pub returns-else-i-s : goal.returns-else-i-s

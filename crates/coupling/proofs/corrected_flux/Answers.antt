@@ -1,6 +1,5 @@
 use Rattle.coupling.specs.Face.{corrected_flux}
 use borrow.Author.Tests.{not-true, not-false}
-use borrow.Author.Rules.{rules}
 use Rattle.coupling.proofs.corrected_flux.Goals as goal
 
 pub returns-then-not-usable : goal.returns-then-not-usable

@@ -1,5 +1,4 @@
 use Rattle.coupling.specs.Cell.{corrected_velocity}
-use borrow.Author.Rules.{rules}
 use Rattle.coupling.proofs.corrected_velocity.Goals as goal
 
 pub returns : goal.returns

@@ -1,5 +1,4 @@
 use Rattle.coupling.specs.Face.{distances}
-use borrow.Author.Rules.{rules}
 use Rattle.coupling.proofs.distances.Goals as goal
 
 pub returns : goal.returns

@@ -1,5 +1,4 @@
 use Rattle.coupling.specs.Face.{fixed_coefficient}
-use borrow.Author.Rules.{rules}
 use Rattle.coupling.proofs.fixed_coefficient.Goals as goal
 
 pub returns : goal.returns

@@ -1,6 +1,5 @@
 use borrow.Author.Tests.{not-true, not-false}
 use Rattle.coupling.specs.Face.{internal_coefficient}
-use borrow.Author.Rules.{rules}
 use Rattle.coupling.proofs.internal_coefficient.Goals as goal
 
 pub returns-then-not-far : goal.returns-then-not-far

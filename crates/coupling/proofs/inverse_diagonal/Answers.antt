@@ -1,5 +1,4 @@
 use Rattle.coupling.specs.Cell.{inverse_diagonal}
-use borrow.Author.Rules.{rules}
 use Rattle.coupling.proofs.inverse_diagonal.Goals as goal
 
 pub returns-then-usable : goal.returns-then-usable

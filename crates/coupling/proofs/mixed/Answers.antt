@@ -1,5 +1,4 @@
 use Rattle.coupling.specs.Face.{mixed}
-use borrow.Author.Rules.{rules}
 use Rattle.coupling.proofs.mixed.Goals as goal
 
 pub returns : goal.returns

@@ -1,5 +1,4 @@
 use Rattle.coupling.specs.Face.{positive}
-use borrow.Author.Rules.{rules}
 use Rattle.coupling.proofs.positive.Goals as goal
 
 pub returns-then-usable : goal.returns-then-usable

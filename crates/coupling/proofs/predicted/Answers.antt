@@ -1,5 +1,4 @@
 use Rattle.coupling.specs.Face.{predicted}
-use borrow.Author.Rules.{rules}
 use Rattle.coupling.proofs.predicted.Goals as goal
 
 pub returns : goal.returns

@@ -1,5 +1,4 @@
 use Rattle.coupling.specs.Face.{predicted_flux}
-use borrow.Author.Rules.{rules}
 use Rattle.coupling.proofs.predicted_flux.Goals as goal
 
 pub returns-then-finite : goal.returns-then-finite

@@ -1,5 +1,4 @@
 use Rattle.coupling.specs.Face.{projected}
-use borrow.Author.Rules.{rules}
 use Rattle.coupling.proofs.projected.Goals as goal
 
 pub returns : goal.returns

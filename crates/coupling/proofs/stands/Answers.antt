@@ -1,5 +1,4 @@
 use Rattle.coupling.specs.Cell.{stands}
-use borrow.Author.Rules.{rules}
 use Rattle.coupling.proofs.stands.Goals as goal
 
 pub returns : goal.returns

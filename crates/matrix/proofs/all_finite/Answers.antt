@@ -1,4 +1,3 @@
-use borrow.Author.Rules.{rules}
 use Rattle.matrix.specs.Normal.{all_finite}
 use Rattle.matrix.proofs.all_finite.Goals as goal
 

@@ -1,4 +1,3 @@
-use borrow.Author.Rules.{rules}
 use Rattle.matrix.specs.Normal.{lower_factor, factored, with_root}
 use Rattle.matrix.proofs.factored_inverse.Goals as goal
 

@@ -1,4 +1,3 @@
-use borrow.Author.Rules.{rules}
 use Rattle.matrix.specs.Normal.{inverse2}
 use Rattle.matrix.proofs.inverse_2d.Goals as goal
 

@@ -1,4 +1,3 @@
-use borrow.Author.Rules.{rules}
 use Rattle.matrix.specs.Normal.{inverse3}
 use Rattle.matrix.proofs.inverse_3d.Goals as goal
 

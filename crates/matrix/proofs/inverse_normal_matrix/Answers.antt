@@ -1,5 +1,4 @@
 use borrow.Author.Tests.{eq-eqb, ne_eqb}
-use borrow.Author.Rules.{rules}
 use Rattle.matrix.specs.Normal.{inverse}
 use Rattle.matrix.proofs.inverse_normal_matrix.Goals as goal
 

@@ -1,4 +1,3 @@
-use borrow.Author.Rules.{rules}
 use Rattle.matrix.specs.Normal.{pivot}
 use Rattle.matrix.proofs.pivot_root.Goals as goal
 

@@ -1,4 +1,3 @@
-use borrow.Author.Rules.{rules}
 use Rattle.matrix.specs.Normal.{columns}
 use Rattle.matrix.proofs.three_columns.Goals as goal
 

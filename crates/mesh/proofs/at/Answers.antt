@@ -1,5 +1,4 @@
 use Rattle.mesh.specs.Answers.{at}
-use borrow.Author.Rules.{rules}
 use Rattle.mesh.proofs.at.Goals as goal
 
 pub returns-in-Nothing : goal.returns-in-Nothing

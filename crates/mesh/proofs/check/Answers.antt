@@ -1,10 +1,9 @@
-use mathlib.Core.Path.{◌≡◌, refl, sym, ◌∙◌}
+use mathlib.Core.Path.{sym, ◌∙◌}
 use mathlib.Core.Bool.{◌&&◌}
 use borrow.Author.Tests.{eq-eqb, ne_eqb, not-true, not-false}
 use Rattle.mesh.specs.Answers.{pass, or_else, first_of}
 use Rattle.mesh.specs.Mesh.{mesh, topology, checks}
 use Rattle.mesh.proofs.Facts.{or_accepted}
-use borrow.Author.Rules.{rules}
 use Rattle.mesh.proofs.check.Goals as goal
 
 pub returns-then-not-sizes_ok : goal.returns-then-not-sizes_ok

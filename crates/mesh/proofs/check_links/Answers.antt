@@ -1,8 +1,7 @@
 use Rattle.mesh.specs.Answers.{first_of}
 use Rattle.mesh.specs.Mesh.{links}
 use Rattle.mesh.proofs.Facts.{or_accepted}
-use mathlib.Core.Path.{sym, ◌∙◌}
-use borrow.Author.Rules.{rules}
+use mathlib.Core.Path.{◌∙◌}
 use Rattle.mesh.proofs.check_links.Goals as goal
 
 pub returns : goal.returns

@@ -1,12 +1,10 @@
-use mathlib.Core.Path.{◌≡◌, refl, sym, ◌∙◌}
+use mathlib.Core.Path.{◌≡◌, sym}
 use Rattle.mesh.specs.Answers.{at, or_else, first_of}
 use Rattle.chain.specs.Search.{lower}
 use Rattle.chain.specs.Chains.{lowest_broken}
 use Rattle.chain.specs.declared.walk.Form.TheVariants.{First, Second}
 use Rattle.mesh.specs.Checks.{lowest_bad_face, lowest_unknown_code}
 use Rattle.mesh.specs.Mesh.{topology}
-use Rattle.chain.specs.declared.Found.TheVariants.{At, Nothing}
-use borrow.Author.Rules.{rules}
 use Rattle.mesh.proofs.check_topology.Goals as goal
 
 pub returns-in-At : goal.returns-in-At

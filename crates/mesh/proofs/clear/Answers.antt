@@ -1,11 +1,10 @@
-use mathlib.Core.Path.{◌≡◌, refl, sym, ◌∙◌}
-use Prim.Native.Nat.{ℕ, ◌-◌}
+use mathlib.Core.Path.{refl}
 use native.Mathlib.Omega.{arith}
 use lib.ListN.{length, length-set}
 use borrow.Author.Rules.{scaled_Fits}
 use lib.Ieee.{nan}
 use Rattle.binary64.specs.Numbers.{zero64}
-use Rattle.mesh.proofs.Filling.{Filled, start, more, finish}
+use Rattle.mesh.proofs.Filling.{start, more, finish}
 use Rattle.mesh.proofs.clear.Goals as goal
 
 pub loop-at-init : goal.loop-at-init

@@ -1,11 +1,8 @@
-use mathlib.Core.Path.{◌≡◌, refl, sym, ◌∙◌}
-use Prim.Native.Nat.{ℕ, ◌-◌}
-use native.Mathlib.Omega.{arith}
-use lib.ListN.{length, length-set}
-use borrow.Author.Rules.{scaled_Fits}
+use Prim.Native.Nat.{◌-◌}
+use lib.ListN.{length}
 use lib.Ieee.{nan}
 use Rattle.binary64.specs.Numbers.{zero64}
-use Rattle.mesh.proofs.Filling.{Filled, start, more, finish}
+use Rattle.mesh.proofs.Filling.{Filled}
 use Rattle.mesh.proofs.clear.Given as goal
 
 abbrev pub invariant-loop-at : goal.invariant-loop-at

@@ -1,9 +1,9 @@
-use mathlib.Core.Path.{◌≡◌, refl, sym, ◌∙◌}
-use Prim.Native.Nat.{ℕ, ◌-◌}
+use mathlib.Core.Path.{refl}
+use Prim.Native.Nat.{ℕ}
 use native.Mathlib.Omega.{arith}
 use lib.ListN.{length, length-set}
 use borrow.Author.Rules.{scaled_Fits}
-use Rattle.mesh.proofs.Filling.{Filled, start, more, finish}
+use Rattle.mesh.proofs.Filling.{start, more, finish}
 use Rattle.mesh.proofs.clear_numbers.Goals as goal
 
 pub loop-i-init : goal.loop-i-init

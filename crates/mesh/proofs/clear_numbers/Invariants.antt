@@ -1,9 +1,6 @@
-use mathlib.Core.Path.{◌≡◌, refl, sym, ◌∙◌}
 use Prim.Native.Nat.{ℕ, ◌-◌}
-use native.Mathlib.Omega.{arith}
-use lib.ListN.{length, length-set}
-use borrow.Author.Rules.{scaled_Fits}
-use Rattle.mesh.proofs.Filling.{Filled, start, more, finish}
+use lib.ListN.{length}
+use Rattle.mesh.proofs.Filling.{Filled}
 use Rattle.mesh.proofs.clear_numbers.Given as goal
 
 abbrev pub invariant-loop-i : goal.invariant-loop-i

@@ -1,4 +1,3 @@
-use borrow.Author.Rules.{rules}
 use Rattle.mesh.proofs.conditions_sized.Goals as goal
 
 pub returns : goal.returns

@@ -5,7 +5,6 @@ use native.Mathlib.Nat.{zero-mul, mul_comm, mul-div_cancel, mul-mod_right, div-a
 use native.Mathlib.Omega.{arith}
 use lib.Dec.{eqb}
 use borrow.Author.Tests.{eq-eqb, ne_eqb, eqb-true, eqb-false}
-use borrow.Author.Rules.{rules}
 use Rattle.mesh.proofs.is_sized.Goals as goal
 
 by_division : (len width count : ℕ) → 0 < width → (eqb (len / width) count && eqb (len % width) 0) ≡ eqb len (width * count)

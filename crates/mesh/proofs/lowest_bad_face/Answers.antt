@@ -1,9 +1,9 @@
-use mathlib.Core.Path.{◌≡◌, refl, sym, ◌∙◌}
-use Prim.Native.Nat.{◌-◌, ◌/◌}
+use mathlib.Core.Path.{sym, ◌∙◌}
+use Prim.Native.Nat.{◌/◌}
 use native.Mathlib.Omega.{arith}
 use lib.ListN.{length}
 use Rattle.mesh.specs.Checks.{bad_face}
-use Rattle.chain.proofs.Search.{Searched, start, more, found, nothing}
+use Rattle.chain.proofs.Search.{start, more, found, nothing}
 use Rattle.mesh.proofs.lowest_bad_face.Goals as goal
 
 pub loop-f-init : goal.loop-f-init

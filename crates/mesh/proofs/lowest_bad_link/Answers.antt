@@ -1,9 +1,9 @@
 use mathlib.Core.Path.{sym, ◌∙◌}
-use Prim.Native.Nat.{◌-◌, ◌/◌}
+use Prim.Native.Nat.{◌/◌}
 use native.Mathlib.Omega.{arith}
 use lib.ListN.{length}
 use Rattle.mesh.specs.Checks.{bad_link}
-use Rattle.chain.proofs.Search.{Searched, start, more, found, nothing}
+use Rattle.chain.proofs.Search.{start, more, found, nothing}
 use Rattle.mesh.proofs.lowest_bad_link.Goals as goal
 
 pub loop-f-init : goal.loop-f-init

@@ -1,10 +1,10 @@
-use mathlib.Core.Path.{◌≡◌, refl, sym, ◌∙◌}
-use Prim.Native.Nat.{◌-◌, ◌*◌, ◌/◌}
+use mathlib.Core.Path.{sym}
+use Prim.Native.Nat.{◌/◌}
 use native.Mathlib.Omega.{arith}
 use lib.ListN.{length}
 use borrow.Author.Tests.{lt-ltb, le-ltb}
 use Rattle.mesh.specs.Checks.{unknown_code}
-use Rattle.chain.proofs.Search.{Searched, start, more, found, nothing}
+use Rattle.chain.proofs.Search.{start, more, found, nothing}
 use Rattle.mesh.proofs.lowest_unknown_code.Goals as goal
 
 pub loop-f-init : goal.loop-f-init

@@ -1,10 +1,7 @@
-use mathlib.Core.Path.{◌≡◌, refl, sym, ◌∙◌}
-use Prim.Native.Nat.{◌-◌, ◌*◌, ◌/◌}
-use native.Mathlib.Omega.{arith}
+use Prim.Native.Nat.{◌-◌, ◌/◌}
 use lib.ListN.{length}
-use borrow.Author.Tests.{lt-ltb, le-ltb}
 use Rattle.mesh.specs.Checks.{unknown_code}
-use Rattle.chain.proofs.Search.{Searched, start, more, found, nothing}
+use Rattle.chain.proofs.Search.{Searched}
 use Rattle.mesh.proofs.lowest_unknown_code.Given as goal
 
 abbrev pub invariant-loop-f : goal.invariant-loop-f

@@ -1,4 +1,3 @@
-use borrow.Author.Rules.{rules}
 use Rattle.mesh.proofs.mesh_sized.Goals as goal
 
 pub returns : goal.returns
@@ -11,5 +10,5 @@ returns c =
         c.is_sized-4.ensures,
         c.is_sized-5.ensures,
         c.is_sized-6.ensures,
-        );
+      );
     }

@@ -1,5 +1,4 @@
 use Rattle.mesh.specs.Answers.{or_else}
-use borrow.Author.Rules.{rules}
 use Rattle.mesh.proofs.or_else.Goals as goal
 
 pub returns-in-Accepted : goal.returns-in-Accepted

@@ -4,7 +4,6 @@ use lib.ListN.{length}
 use borrow.Author.Tests.{eq-eqb, ne_eqb, not-true, not-false}
 use Rattle.mesh.specs.Answers.{pass, at, or_else, first_of}
 use Rattle.numerics.specs.Outflow.{outflow_checks}
-use borrow.Author.Rules.{rules}
 use Rattle.numerics.proofs.check_flux.Goals as goal
 
 pub returns-then-not-sizes_ok : goal.returns-then-not-sizes_ok

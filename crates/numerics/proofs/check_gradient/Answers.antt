@@ -1,4 +1,4 @@
-use mathlib.Core.Path.{◌≡◌, sym, ◌∙◌}
+use mathlib.Core.Path.{sym, ◌∙◌}
 use mathlib.Core.Bool.{◌&&◌}
 use native.Mathlib.Omega.{arith}
 use lib.Dec.{eqb, leb}
@@ -9,7 +9,6 @@ use Rattle.chain.proofs.Truth.{and_true}
 use Rattle.mesh.specs.Checks.{largest_count}
 use Rattle.mesh.proofs.Facts.{small}
 use Rattle.numerics.specs.Gradient.{lent_checks}
-use borrow.Author.Rules.{rules}
 use Rattle.numerics.proofs.check_gradient.Goals as goal
 
 pub returns-then-not-sizes_ok-records : goal.returns-then-not-sizes_ok-records

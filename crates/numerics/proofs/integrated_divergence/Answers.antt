@@ -1,14 +1,12 @@
-use mathlib.Core.Path.{◌≡◌, refl, sym, ◌∙◌, ap}
+use mathlib.Core.Path.{refl, sym, ◌∙◌, ap}
 use Prim.Native.Nat.{ℕ}
 use mathlib.Core.List.{List}
 use lib.ListN.{length, get_or}
 use lib.Ieee.{Float, nan}
 use Rattle.mesh.specs.Pass.{if_refused}
-use Rattle.mesh.specs.declared.Answer.TheVariants.{Accepted}
-use Rattle.numerics.specs.Outflow.{outflows, outflow_checks}
+use Rattle.numerics.specs.Outflow.{outflows}
 use Rattle.numerics.proofs.Flows.{flows}
 use Rattle.numerics.proofs.Scatter.{sums_its_terms}
-use borrow.Author.Rules.{rules}
 use Rattle.numerics.proofs.integrated_divergence.Goals as goal
 
 pub integrated_divergence-requires : goal.integrated_divergence-requires

@@ -3,11 +3,9 @@ use mathlib.Core.Bool.{Bool}
 use Prim.Native.Nat.{ℕ, ◌*◌}
 use lib.ListN.{length}
 use Rattle.mesh.specs.Pass.{if_refused}
-use Rattle.mesh.specs.declared.Answer.TheVariants.{Accepted}
 use Rattle.numerics.specs.Slices.{slices}
 use Rattle.numerics.specs.Gradient.{gradients, lent_checks, gradient_checks}
 use Rattle.numerics.proofs.Slopes.{slopes}
-use borrow.Author.Rules.{rules}
 use Rattle.numerics.proofs.least_squares_gradient.Goals as goal
 
 pub least_squares_gradient-requires : goal.least_squares_gradient-requires

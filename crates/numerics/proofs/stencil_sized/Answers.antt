@@ -1,4 +1,3 @@
-use borrow.Author.Rules.{rules}
 use Rattle.numerics.proofs.stencil_sized.Goals as goal
 
 pub returns : goal.returns

@@ -1,5 +1,4 @@
 use Rattle.passes.specs.Staged.{late_of, staged}
-use borrow.Author.Rules.{rules}
 use Rattle.passes.proofs.early.Goals as goal
 
 pub returns-in-Value : goal.returns-in-Value

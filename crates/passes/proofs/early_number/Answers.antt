@@ -1,5 +1,4 @@
 use Rattle.passes.specs.Staged.{early_number}
-use borrow.Author.Rules.{rules}
 use Rattle.passes.proofs.early_number.Goals as goal
 
 pub returns-in-Kept : goal.returns-in-Kept

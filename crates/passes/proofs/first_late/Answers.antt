@@ -1,6 +1,5 @@
 use Rattle.passes.specs.Staged.{late_after}
 use Rattle.mesh.specs.Pass.{after}
-use borrow.Author.Rules.{rules}
 use Rattle.passes.proofs.first_late.Goals as goal
 
 pub returns-in-Accepted : goal.returns-in-Accepted

@@ -1,5 +1,4 @@
 use Rattle.passes.specs.Staged.{is_late}
-use borrow.Author.Rules.{rules}
 use Rattle.passes.proofs.is_late.Goals as goal
 
 pub returns-in-Kept : goal.returns-in-Kept

@@ -1,5 +1,4 @@
 use Rattle.passes.specs.Staged.{late_of}
-use borrow.Author.Rules.{rules}
 use Rattle.passes.proofs.late.Goals as goal
 
 pub returns-in-Value : goal.returns-in-Value

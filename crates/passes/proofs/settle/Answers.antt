@@ -1,6 +1,5 @@
 use Rattle.mesh.specs.Pass.{handed_out}
-use mathlib.Core.Path.{refl, sym}
-use borrow.Author.Rules.{rules}
+use mathlib.Core.Path.{sym}
 use Rattle.passes.proofs.settle.Goals as goal
 
 pub returns-in-Accepted : goal.returns-in-Accepted

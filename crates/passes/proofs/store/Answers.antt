@@ -1,6 +1,5 @@
 use lib.Seq.{set_out}
 use mathlib.Core.Path.{sym}
-use borrow.Author.Rules.{rules}
 use Rattle.passes.proofs.store.Goals as goal
 
 pub returns-else-i-out : goal.returns-else-i-out

@@ -1,5 +1,4 @@
 use Rattle.passes.specs.Staged.{late_after}
-use borrow.Author.Rules.{rules}
 use Rattle.passes.proofs.with_late.Goals as goal
 
 pub returns-in-Kept : goal.returns-in-Kept

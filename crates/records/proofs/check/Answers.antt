@@ -6,7 +6,6 @@ use lib.Dec.{eqb}
 use borrow.Author.Tests.{eq-eqb, ne_eqb, eqb-true, eqb-false}
 use Rattle.numerics.specs.Slices.{slices}
 use Rattle.numerics.specs.Gradient.{lent_checks}
-use borrow.Author.Rules.{rules}
 use Rattle.records.proofs.check.Goals as goal
 
 three_times : (m n : ℕ) → eqb m n ≡ eqb (3 * m) (3 * n)

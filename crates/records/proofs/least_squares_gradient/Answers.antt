@@ -1,10 +1,10 @@
-use Rattle.std.proofs.Common.{List, ◌≡◌, ◌≤◌, ◌<◌, ◌+◌, ◌*◌, ℕ, length, refl, sym, ap, ◌∙◌, add-one, arith, Fits, w64, rules}
+use Rattle.std.proofs.Common.{List, ◌≡◌, ◌<◌, length, refl, sym, ap, ◌∙◌, add-one, arith, rules}
 use Prim.Native.Nat.{zero-le}
 use lib.ListN.{set}
 use Rattle.numerics.specs.Slices.{slices}
 use Rattle.vector.specs.declared.Vec3.{Vec3}
 use Rattle.numerics.specs.Gradient.{gradient_at}
-use Rattle.records.proofs.Filled.{filled, sloped, handed, length_filled}
+use Rattle.records.proofs.Filled.{filled, sloped, handed}
 use Rattle.records.proofs.least_squares_gradient.Goals as goal
 
 pub loop-c-init : goal.loop-c-init

@@ -1,7 +1,7 @@
-use mathlib.Core.Path.{◌≡◌, refl}
+use mathlib.Core.Path.{refl}
 use native.Mathlib.Omega.{arith}
-use lib.ListN.{length, length-set}
-use Rattle.sentence.proofs.Place.{Spelled, begun, spelled_more, spelled_all}
+use lib.ListN.{length-set}
+use Rattle.sentence.proofs.Place.{begun, spelled_more, spelled_all}
 use Rattle.sentence.proofs.put_decimal.Goals as goal
 
 pub loop-place-init : goal.loop-place-init

@@ -1,7 +1,6 @@
-use mathlib.Core.Path.{◌≡◌, refl}
-use native.Mathlib.Omega.{arith}
-use lib.ListN.{length, length-set}
-use Rattle.sentence.proofs.Place.{Spelled, begun, spelled_more, spelled_all}
+use mathlib.Core.Path.{◌≡◌}
+use lib.ListN.{length}
+use Rattle.sentence.proofs.Place.{Spelled}
 use Rattle.sentence.proofs.put_decimal.Given as goal
 
 abbrev pub invariant-loop-place : goal.invariant-loop-place

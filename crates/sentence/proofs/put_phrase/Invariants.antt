@@ -1,12 +1,7 @@
 use mathlib.Core.List.{◌++◌}
-use mathlib.Core.Path.{◌≡◌, refl, ◌∙◌, ap}
+use mathlib.Core.Path.{◌≡◌}
 use Prim.Native.Nat.{◌-◌, ◌≤◌}
-use native.Mathlib.Numerals.{add-one}
-use native.Mathlib.Nat.{le_antisymm}
-use native.Mathlib.Omega.{arith}
-use lib.ListN.{length, length-set, take, drop}
-use lib.Seq.{take-length}
-use Rattle.sentence.proofs.Place.{copied_more}
+use lib.ListN.{length, take, drop}
 use Rattle.sentence.proofs.put_phrase.Given as goal
 
 abbrev pub invariant-loop-i : goal.invariant-loop-i

@@ -6,7 +6,6 @@ use lib.ListN.{length}
 use Rattle.sentence.specs.Sentence.{decimal}
 use Rattle.sentence.proofs.Place.{same_size, in_place, needed, fits_in, no_room}
 use Rattle.sentence.proofs.Table.{short, told}
-use borrow.Author.Rules.{rules}
 use Rattle.sentence.proofs.tell.Goals as goal
 
 pub overflow_add-end : goal.overflow_add-end

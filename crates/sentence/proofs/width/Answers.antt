@@ -1,8 +1,4 @@
-use mathlib.Core.Path.{◌≡◌}
-use Prim.Native.Nat.{◌+◌, ◌≤◌}
 use native.Mathlib.Omega.{arith}
-use lib.ListN.{length}
-use Rattle.sentence.specs.Sentence.{decimal}
 use Rattle.sentence.proofs.Decimal.{length-one, length_more, at_most}
 use Rattle.sentence.proofs.width.Goals as goal
 

@@ -1,8 +1,6 @@
 use Rattle.predictor.specs.Boundary.{boundary_checks}
 use Rattle.mesh.specs.Answers.{or_else}
-use mathlib.Core.Path.{◌∙◌}
 use Rattle.mesh.proofs.Facts.{shape_first}
-use borrow.Author.Rules.{rules}
 use Rattle.simple.proofs.check_boundary.Goals as goal
 
 pub returns-in-Accepted : goal.returns-in-Accepted

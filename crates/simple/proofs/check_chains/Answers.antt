@@ -1,5 +1,4 @@
 use mathlib.Core.Path.{◌∙◌}
-use borrow.Author.Rules.{rules}
 use Rattle.simple.proofs.check_chains.Goals as goal
 
 pub returns : goal.returns

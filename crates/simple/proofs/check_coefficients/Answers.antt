@@ -2,7 +2,6 @@ use Rattle.predictor.specs.Coefficients.{coefficient_checks}
 use Rattle.mesh.specs.Answers.{or_else}
 use mathlib.Core.Path.{◌∙◌}
 use Rattle.mesh.proofs.Facts.{shape_first}
-use borrow.Author.Rules.{rules}
 use Rattle.simple.proofs.check_coefficients.Goals as goal
 
 pub returns-in-Accepted : goal.returns-in-Accepted

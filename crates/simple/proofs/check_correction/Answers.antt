@@ -1,7 +1,6 @@
 use Rattle.simple.specs.Corrected.{correction_checks}
 use Rattle.mesh.specs.Answers.{or_else}
 use Rattle.mesh.proofs.Facts.{shape_first}
-use borrow.Author.Rules.{rules}
 use Rattle.simple.proofs.check_correction.Goals as goal
 
 pub returns-in-Accepted : goal.returns-in-Accepted

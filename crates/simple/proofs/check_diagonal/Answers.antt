@@ -1,7 +1,6 @@
 use Rattle.corrector.specs.Diagonal.{diagonal_checks}
 use mathlib.Core.Path.{◌∙◌}
 use Rattle.mesh.proofs.Facts.{shape_two}
-use borrow.Author.Rules.{rules}
 use Rattle.simple.proofs.check_diagonal.Goals as goal
 
 pub returns : goal.returns

@@ -5,8 +5,7 @@ use Rattle.mesh.proofs.Facts.{shape_accepted, shape_both, small}
 use Rattle.mesh.specs.Answers.{or_else}
 use lib.Dec.{leb}
 use mathlib.Core.Bool.{◌&&◌}
-use mathlib.Core.Path.{◌≡◌, sym, ◌∙◌}
-use borrow.Author.Rules.{rules}
+use mathlib.Core.Path.{sym, ◌∙◌}
 use Rattle.simple.proofs.check_prediction.Goals as goal
 
 pub check_chains-requires : goal.check_chains-requires

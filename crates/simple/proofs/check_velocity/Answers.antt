@@ -1,7 +1,6 @@
 use Rattle.corrector.specs.Velocity.{velocity_checks}
 use mathlib.Core.Path.{◌∙◌}
 use Rattle.mesh.specs.Answers.{shape}
-use borrow.Author.Rules.{rules}
 use Rattle.simple.proofs.check_velocity.Goals as goal
 
 pub returns : goal.returns

@@ -6,8 +6,7 @@ use Rattle.mesh.specs.Pass.{handed_out, if_refused}
 use Rattle.mesh.specs.Answers.{or_else}
 use lib.ListN.{length}
 use Prim.Native.Nat.{ℕ}
-use mathlib.Core.Path.{◌≡◌, sym, ◌∙◌, ap}
-use borrow.Author.Rules.{rules}
+use mathlib.Core.Path.{sym, ◌∙◌, ap}
 use Rattle.simple.proofs.continuity_metrics.Goals as goal
 
 pub continuity_metrics-requires : goal.continuity_metrics-requires
@@ -28,7 +27,7 @@ returns-in-Accepted c =
         answer = rw a (c.continuity_metrics.ensures.answer ∙ ap (λ (n : ℕ). metrics_answer (metrics_of c.args.places.now (outflows n c.args.adjacency.now c.args.flux.now))) o);
         flows = rw a (c.continuity_metrics.ensures.sums ∙ ap (λ (n : ℕ). handed_out c.continuity_metrics.result n (outflows n c.args.adjacency.now c.args.flux.now)) o);
         numbers = rw a (c.continuity_metrics.ensures.numbers ∙ ap (λ (n : ℕ). metrics_numbers (metrics_of c.args.places.now (outflows n c.args.adjacency.now c.args.flux.now))) o);
-        };
+      };
     }
 
 pub returns-in-Refused : goal.returns-in-Refused

@@ -3,8 +3,7 @@ use Rattle.coupling.specs.Grid.{field}
 use Rattle.mesh.specs.Pass.{if_refused}
 use Rattle.mesh.specs.Answers.{or_else}
 use lib.ListN.{length}
-use mathlib.Core.Path.{◌≡◌, sym, ◌∙◌}
-use borrow.Author.Rules.{rules}
+use mathlib.Core.Path.{sym, ◌∙◌}
 use Rattle.simple.proofs.correct_cell_velocity_from_gradient.Goals as goal
 
 pub correct_cell_velocity_from_gradient-requires : goal.correct_cell_velocity_from_gradient-requires

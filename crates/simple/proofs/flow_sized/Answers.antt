@@ -1,4 +1,3 @@
-use borrow.Author.Rules.{rules}
 use Rattle.simple.proofs.flow_sized.Goals as goal
 
 pub returns : goal.returns

@@ -4,8 +4,7 @@ use Rattle.mesh.specs.Pass.{handed_out, if_refused}
 use Rattle.mesh.specs.Answers.{or_else}
 use lib.ListN.{length}
 use Prim.Native.Nat.{ℕ}
-use mathlib.Core.Path.{◌≡◌, sym, ◌∙◌, ap}
-use borrow.Author.Rules.{rules}
+use mathlib.Core.Path.{sym, ◌∙◌, ap}
 use Rattle.simple.proofs.momentum_inverse_diagonal.Goals as goal
 
 pub momentum_inverse_diagonal-requires : goal.momentum_inverse_diagonal-requires

@@ -159,6 +159,7 @@ fn offer_at(
 }
 
 // The equation of a difference, weighted by the inverse square of its distance.
+#[tactic(auto, unfolding(crate::specs::Cell::weighted, crate::specs::Building::course_of))]
 fn add_difference(
     records: usize,
     f: usize,

@@ -23,6 +23,7 @@ fn contains(n: usize, limit: usize, chain: &[usize], first: usize, d: usize) -> 
 }
 
 // d where it is from `from` on, below `lowest`, and neither c nor a neighbour of c; else `lowest`.
+#[tactic(auto, unfolding(crate::specs::Ring::lower_fresh, crate::specs::Ring::fresh))]
 fn lower_of(
     counts: Counts,
     heads: &[usize],

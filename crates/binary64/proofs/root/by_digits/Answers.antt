@@ -1,4 +1,4 @@
-use Rattle.std.proofs.Common.{◌≡◌, ℕ, ◌+◌, ◌-◌, ◌*◌, ◌/◌, ◌%◌, ◌^◌, ◌<◌, ◌≤◌, sym, refl, ap, ◌∙◌, subst, ⊎_elim, arith}
+use Rattle.std.proofs.Common.{◌≡◌, ℕ, ◌+◌, ◌*◌, ◌^◌, ◌<◌, ap, ◌∙◌, arith}
 use Rattle.binary64.proofs.root.Squares.{even_square, odd_square, power, turn, bounded, finish, halve_at}
 use Rattle.binary64.proofs.root.by_digits.Goals as goal
 use Rattle.binary64.proofs.root.by_digits.Goals.{then-t-r, else-t-r}

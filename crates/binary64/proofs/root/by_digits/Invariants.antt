@@ -1,5 +1,4 @@
-use Rattle.std.proofs.Common.{◌≡◌, ℕ, ◌+◌, ◌-◌, ◌*◌, ◌/◌, ◌%◌, ◌^◌, ◌<◌, ◌≤◌, sym, refl, ap, ◌∙◌, subst, ⊎_elim, arith}
-use Rattle.binary64.proofs.root.Squares.{even_square, odd_square, power, turn, bounded, finish, halve_at}
+use Rattle.std.proofs.Common.{◌≡◌, ◌+◌, ◌-◌, ◌*◌, ◌^◌, ◌<◌, ◌≤◌}
 use Rattle.binary64.proofs.root.by_digits.Given as goal
 
 abbrev pub invariant-loop-i : goal.invariant-loop-i

@@ -1,8 +1,5 @@
-use Rattle.std.proofs.Common.{◌≡◌, ℕ, ◌+◌, ◌-◌, ◌*◌, ◌/◌, ◌%◌, ◌^◌, ◌<◌, sym, ap, ◌∙◌, subst, inl, inr, arith, rules}
+use Rattle.std.proofs.Common.{inl, inr, arith, rules}
 use Rattle.binary64.proofs.Bits.{no_nan_bits}
-use lib.Ieee.{binary64, of_bits}
-use Rattle.binary64.specs.Significand.{RootBits}
-use Rattle.binary64.specs.Root.{nearest_root}
 use Rattle.binary64.proofs.root.Placed.{Placed, placed}
 use Rattle.binary64.proofs.root.normal.Goals as goal
 

@@ -1,4 +1,4 @@
-use Rattle.std.proofs.Common.{ℕ, ◌^◌, ◌<◌, arith, rules}
+use Rattle.std.proofs.Common.{◌^◌, ◌<◌, arith, rules}
 use Rattle.binary64.proofs.Bits.{no_nan_bits}
 use Rattle.binary64.proofs.root.Rounding.{scaled_is, scaled_high}
 use Rattle.binary64.proofs.root.scaled.Goals as goal

@@ -1,4 +1,4 @@
-use Rattle.std.proofs.Common.{lit≤, rules}
+use Rattle.std.proofs.Common.{lit≤}
 use Rattle.binary64.proofs.Bits.{no_nan_bits}
 use Rattle.binary64.proofs.root.settles.Goals as goal
 

@@ -1,4 +1,4 @@
-use Rattle.std.proofs.Common.{ℕ, ◌*◌, ◌≤◌, inl, inr, mul-le-mul_right, arith, rules}
+use Rattle.std.proofs.Common.{◌*◌, ◌≤◌, inl, inr, mul-le-mul_right, arith, rules}
 use Rattle.binary64.proofs.root.significand.Goals as goal
 
 pub overflow_mul-n : goal.overflow_mul-n

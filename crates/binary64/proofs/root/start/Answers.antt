@@ -1,4 +1,4 @@
-use Rattle.std.proofs.Common.{◌-◌, ◌/◌, ◌%◌, ◌^◌, arith, rules}
+use Rattle.std.proofs.Common.{◌-◌, ◌/◌, ◌%◌, ◌^◌, arith}
 use Rattle.binary64.proofs.root.Placed.{start_of}
 use Rattle.binary64.proofs.root.Squares.{small_product}
 use Rattle.binary64.proofs.root.start.Goals as goal

@@ -1,11 +1,7 @@
-use mathlib.Core.Path.{◌≡◌, sym, ◌∙◌}
-use mathlib.Core.Bool.{true, false≢true}
-use Prim.Native.Nat.{ℕ, ◌-◌, ◌/◌, ◌<◌}
-use native.Mathlib.Omega.{arith}
-use lib.ListN.{length}
+use mathlib.Core.Path.{◌≡◌}
+use mathlib.Core.Bool.{true}
+use Prim.Native.Nat.{ℕ, ◌-◌, ◌<◌}
 use Rattle.chain.specs.Chains.{leads_on}
-use Rattle.chain.proofs.Search.{below_none, below_more}
-use borrow.Author.Tests.{not-false}
 use Rattle.chain.proofs.walk.all_lead_on.Given as goal
 
 abbrev pub invariant-loop-i : goal.invariant-loop-i

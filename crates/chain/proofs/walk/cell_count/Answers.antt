@@ -1,4 +1,3 @@
-use borrow.Author.Rules.{rules}
 use Rattle.chain.proofs.walk.cell_count.Goals as goal
 
 pub returns-in-Single : goal.returns-in-Single

@@ -3,7 +3,6 @@ use mathlib.Core.Bool.{Bool, true, false, ◌&&◌, ◌||◌}
 use Prim.Native.Nat.{ℕ, ◌+◌}
 use lib.Dec.{eqb, leb, ltb}
 use borrow.Author.Tests.{ltb-true, lt-leb}
-use borrow.Author.Rules.{rules}
 use Rattle.chain.specs.Chains.{leads_on}
 use Rattle.chain.proofs.walk.ends_at.Goals as goal
 

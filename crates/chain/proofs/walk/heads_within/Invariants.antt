@@ -1,10 +1,5 @@
-use mathlib.Core.Path.{◌≡◌, sym, subst}
-use mathlib.Core.Bool.{false≢true}
 use Prim.Native.Nat.{ℕ, ◌-◌, ◌<◌, ◌≤◌}
-use native.Mathlib.Nat.{lt_of_lt_of_le}
-use native.Mathlib.Omega.{arith}
 use Rattle.chain.specs.Chains.{head_at}
-use Rattle.chain.proofs.Search.{below_none, below_more}
 use Rattle.chain.proofs.walk.heads_within.Given as goal
 
 abbrev pub invariant-loop-cell : goal.invariant-loop-cell

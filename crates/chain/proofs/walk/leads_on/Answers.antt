@@ -5,7 +5,6 @@ use native.Mathlib.Omega.{arith}
 use lib.Dec.{eqb, leb, ltb}
 use borrow.Author.Tests.{lt-ltb, le-ltb, le-leb, eq-eqb, ne_eqb}
 use Rattle.chain.specs.Chains.{leads_on}
-use borrow.Author.Rules.{rules}
 use Rattle.chain.proofs.walk.leads_on.Goals as goal
 
 -- a record that leads to the one behind it, which is there, leads on

@@ -1,6 +1,5 @@
 use mathlib.Core.Path.{sym}
 use Rattle.chain.proofs.Chains.{none_broken}
-use borrow.Author.Rules.{rules}
 use Rattle.chain.proofs.walk.lowest_broken.Goals as goal
 
 pub returns-then-heads_within : goal.returns-then-heads_within

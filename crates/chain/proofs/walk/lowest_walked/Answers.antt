@@ -1,21 +1,18 @@
-use mathlib.Core.Path.{◌≡◌, refl, sym, ◌∙◌, ap}
-use mathlib.Core.Bool.{Bool, true, not}
-use mathlib.Core.Logic.{⊎_elim}
-use mathlib.Core.List.{List}
-use Prim.Native.Nat.{ℕ, ◌-◌, ◌/◌}
+use mathlib.Core.Path.{◌≡◌, sym, ◌∙◌, ap}
+use mathlib.Core.Bool.{true, not}
+use Prim.Native.Nat.{◌/◌}
 use native.Mathlib.Omega.{arith}
 use lib.ListN.{length}
-use Rattle.chain.specs.declared.Found.TheVariants.{At, Nothing}
+use Rattle.chain.specs.declared.Found.TheVariants.{At}
 use Rattle.chain.specs.Search.{lowest_where}
-use Rattle.chain.specs.Chains.{step_of, ends, head_at, cell_count, broken_cell}
-use Rattle.chain.proofs.Search.{Searched, start, more, found, nothing}
+use Rattle.chain.specs.Chains.{cell_count, broken_cell}
+use Rattle.chain.proofs.Search.{start, more, found, nothing}
 use Rattle.chain.proofs.Chains.{ended, no_end, breaks, goes_on}
-use borrow.Author.Rules.{rules}
 use Rattle.chain.proofs.walk.lowest_walked.Goals as goal
 use Rattle.chain.proofs.walk.lowest_walked.Goals.{else-cells-test, then-cells-test+then-loop-r-test+then-left-eq0, then-cells-test+then-loop-r-test+else-left-eq0+in-Broken}
 
 pub cells-init : goal.cells-init
-cells-init c = start ((broken_cell c.args.limit c.args.records.now c.args.form c.args.heads.now)) c.cell_count-cells.result
+cells-init c = start (broken_cell c.args.limit c.args.records.now c.args.form c.args.heads.now) c.cell_count-cells.result
 
 pub loop-r-init : goal.loop-r-init
 loop-r-init c = rw c.head_at-r.ensures
@@ -31,7 +28,7 @@ loop-r-smaller c = omega (arith, c.if-left-eq0.false)
 
 pub loop-r-preserved : goal.loop-r-preserved
 loop-r-preserved c =
-    goes_on ((c.args.records.now)) (length ((c.args.records.now)) / 2) c.args.limit c.loop-r.left c.loop-r.r _ c.if-left-eq0.false c.loop-r-test.true
+    goes_on c.args.records.now (length c.args.records.now / 2) c.args.limit c.loop-r.left c.loop-r.r _ c.if-left-eq0.false c.loop-r-test.true
     (sym c.step_at-s.ensures ∙ c.in-Next.is) ∙ c.loop-r.invariant
 
 pub overflow_add-cell : goal.overflow_add-cell
@@ -44,12 +41,12 @@ cells-smaller c = omega (arith, c.cells-test.true)
 pub cells-preserved : goal.cells-preserved
 unfolding broken_cell
 cells-preserved c =
-    more ((broken_cell c.args.limit c.args.records.now c.args.form c.args.heads.now)) c.cell_count-cells.result c.cells.cell c.cells.invariant c.cells-test.true
-    (ap not (sym c.loop-r.invariant ∙ ended ((c.args.records.now)) (length ((c.args.records.now)) / 2) c.args.limit c.loop-r.left c.loop-r.r c.loop-r-test.false))
+    more (broken_cell c.args.limit c.args.records.now c.args.form c.args.heads.now) c.cell_count-cells.result c.cells.cell c.cells.invariant c.cells-test.true
+    (ap not (sym c.loop-r.invariant ∙ ended c.args.records.now (length c.args.records.now / 2) c.args.limit c.loop-r.left c.loop-r.r c.loop-r-test.false))
 
 pub returns-else-cell-cells : goal.returns-else-cell-cells
 returns-else-cell-cells c =
-    rw (← c.cell_count-cells.ensures) (sym (nothing ((broken_cell c.args.limit c.args.records.now c.args.form c.args.heads.now)) c.cell_count-cells.result c.cells.cell c.cells.invariant c.if-cell-cells.false))
+    rw (← c.cell_count-cells.ensures) (sym (nothing (broken_cell c.args.limit c.args.records.now c.args.form c.args.heads.now) c.cell_count-cells.result c.cells.cell c.cells.invariant c.if-cell-cells.false))
 
 pub returns-then-cell-cells : goal.returns-then-cell-cells
 unfolding broken_cell

@@ -1,16 +1,8 @@
-use mathlib.Core.Path.{◌≡◌, refl, sym, ◌∙◌, ap}
-use mathlib.Core.Bool.{Bool, true, not}
-use mathlib.Core.Logic.{⊎_elim}
-use mathlib.Core.List.{List}
-use Prim.Native.Nat.{ℕ, ◌-◌, ◌/◌}
-use native.Mathlib.Omega.{arith}
+use mathlib.Core.Path.{◌≡◌}
+use Prim.Native.Nat.{◌-◌, ◌/◌}
 use lib.ListN.{length}
-use Rattle.chain.specs.declared.Found.TheVariants.{At, Nothing}
-use Rattle.chain.specs.Search.{lowest_where}
-use Rattle.chain.specs.Chains.{step_of, ends, head_at, cell_count, broken_cell}
-use Rattle.chain.proofs.Search.{Searched, start, more, found, nothing}
-use Rattle.chain.proofs.Chains.{ended, no_end, breaks, goes_on}
-use borrow.Author.Rules.{rules}
+use Rattle.chain.specs.Chains.{ends, head_at, broken_cell}
+use Rattle.chain.proofs.Search.{Searched}
 use Rattle.chain.proofs.walk.lowest_walked.Given as goal
 
 abbrev pub invariant-loop-r : goal.invariant-loop-r

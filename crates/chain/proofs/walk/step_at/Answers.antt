@@ -1,6 +1,5 @@
 use borrow.Author.Tests.{le-leb, lt-leb, lt-ltb, le-ltb}
 use Rattle.chain.specs.Chains.{step_of}
-use borrow.Author.Rules.{rules}
 use Rattle.chain.proofs.walk.step_at.Goals as goal
 
 pub returns-then-first_at-limit : goal.returns-then-first_at-limit

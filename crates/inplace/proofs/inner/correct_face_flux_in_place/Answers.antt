@@ -1,6 +1,5 @@
 use Rattle.passes.proofs.Stages.{settled}
 use lib.ListN.{length}
-use borrow.Author.Rules.{rules}
 use Rattle.inplace.proofs.inner.correct_face_flux_in_place.Goals as goal
 
 pub returns : goal.returns

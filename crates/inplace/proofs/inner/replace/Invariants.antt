@@ -1,12 +1,8 @@
 use Rattle.corrector.specs.Correction.{correcting, corrected_flux_at}
-use Rattle.inplace.proofs.Replaced.{Unwritten, unwritten_more, next_item, still_correctable}
-use Rattle.mesh.proofs.Pass.{Passed, start, more, finish, stop}
-use Rattle.mesh.specs.declared.Outcome.{Outcome}
+use Rattle.inplace.proofs.Replaced.{Unwritten}
+use Rattle.mesh.proofs.Pass.{Passed}
 use lib.ListN.{length}
-use native.Mathlib.Omega.{arith}
-use Prim.Native.Nat.{ℕ, ◌-◌}
-use mathlib.Core.Path.{◌≡◌, refl, sym, ◌∙◌}
-use borrow.Author.Rules.{rules}
+use Prim.Native.Nat.{◌-◌}
 use Rattle.inplace.proofs.inner.replace.Given as goal
 
 abbrev pub invariant-loop-face : goal.invariant-loop-face

@@ -1,5 +1,4 @@
 use borrow.Author.Tests.{le-leb, lt-leb}
-use borrow.Author.Rules.{rules}
 use Rattle.mesh.proofs.test.is_bad.Goals as goal
 
 pub returns-then-owner-cells : goal.returns-then-owner-cells

@@ -1,6 +1,5 @@
 use borrow.Author.Tests.{eq-eqb, ne_eqb, lt-ltb, le-ltb}
 use Rattle.mesh.specs.Checks.{bad_link}
-use borrow.Author.Rules.{rules}
 use Rattle.mesh.proofs.test.is_badly_linked.Goals as goal
 
 pub returns-then-peer-eq0 : goal.returns-then-peer-eq0

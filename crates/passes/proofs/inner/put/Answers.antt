@@ -1,5 +1,4 @@
 use Rattle.passes.specs.Staged.{kept_at}
-use borrow.Author.Rules.{rules}
 use Rattle.passes.proofs.inner.put.Goals as goal
 
 pub returns-in-Kept : goal.returns-in-Kept

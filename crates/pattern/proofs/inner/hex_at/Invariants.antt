@@ -1,7 +1,7 @@
 use mathlib.Core.Path.{◌≡◌}
 use Prim.Native.Nat.{◌^◌, ◌-◌, ◌≤◌, ◌<◌}
 use lib.ListN.{take, drop}
-use Rattle.pattern.specs.Text.{last_digits}
+use Rattle.io.specs.Digits.{last_digits}
 use Rattle.pattern.proofs.inner.hex_at.Given as goal
 
 abbrev pub invariant-loop-i : goal.invariant-loop-i

@@ -21,7 +21,7 @@ use Rattle.stencil.specs.declared.inner.build.Progress.{Progress}
 use Rattle.stencil.specs.declared.inner.build.Stage.{Stage}
 use Rattle.stencil.specs.declared.inner.build.Stage.TheVariants.{Halted, Going}
 use Rattle.stencil.specs.declared.inner.build.Finish.TheVariants.{Failed}
-use Rattle.stencil.specs.Building.{Building, building, Solved, Course, stopped, going, and_then, over_all, course_of, finish_of}
+use Rattle.stencil.specs.Building.{Building, building, Solved, Course, going, and_then, over_all, course_of, finish_of}
 
 pub two_in : {k n i : ℕ} → k ≡ 2 * n → i < n → 2 * i + 1 < k
 two_in {k} {n} {i} e h = omega arith

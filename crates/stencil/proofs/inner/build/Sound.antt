@@ -181,10 +181,10 @@ module _ (m : Lent) (records : ℕ) where
   joined_sound c s h g (stopped k i) p = zero-le
   joined_sound c s h g (going b) p =
       let first = start_of s.used b.used in
-      let fit : c < length s.slices.starts = omega (arith, g.starts-size) in
+      let fit : c < length s.slices.starts = omega (arith, g.starts_size) in
       record {
         size = length_ended s.used b.used b.equations ∙ p.size;
-        starts_size = length-set s.slices.starts c first ∙ g.starts-size;
+        starts_size = length-set s.slices.starts c first ∙ g.starts_size;
         room = p.room;
         chain =
             below_more (λ d. Chain (ended_at s.used b.used b.equations) b.used limit (get_or (set s.slices.starts c first) d 0)) c

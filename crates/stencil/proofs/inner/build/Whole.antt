@@ -22,7 +22,7 @@ use Rattle.stencil.specs.declared.inner.build.Finish.TheVariants.{Failed, Done}
 use Rattle.stencil.specs.Lent.{Lent, Buildable}
 use Rattle.stencil.specs.Building.{building, finish_of}
 use Rattle.stencil.specs.Cell.{cell_stencil}
-use Rattle.stencil.specs.Stencil.{start_of, ended_at, put_nine, stencil, Result, refused, built, joined, add_cell, below, answer_of, slices_of, stencil_answer, stencil_slices}
+use Rattle.stencil.specs.Stencil.{start_of, ended_at, put_nine, stencil, refused, built, joined, add_cell, below, answer_of, slices_of, stencil_answer, stencil_slices}
 use Rattle.stencil.proofs.inner.build.Laws.{RecordSized}
 use Rattle.stencil.proofs.inner.build.Within.{Finishes, cell_within}
 
@@ -81,9 +81,9 @@ module _ (m : Lent) (records : ℕ) where
         rw (ps, pe, pi)
         record {
           within = add-one-le l;
-          starts_size = length-set starts c _ ∙ p.starts-size;
+          starts_size = length-set starts c _ ∙ p.starts_size;
           sized = record { numbers = length_ended used q.used e ∙ he; floats = hw };
-          inverses_size = length-nine inverses c q.inverse ∙ p.inverses-size;
+          inverses_size = length-nine inverses c q.inverse ∙ p.inverses_size;
           room = roomy q h;
           done = rw (add-one, p.done, ← is-cell, h);
         }

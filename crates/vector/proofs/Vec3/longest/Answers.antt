@@ -1,6 +1,5 @@
 use mathlib.Core.Path.{◌∙◌}
 use Rattle.vector.specs.Vector.{longest}
-use borrow.Author.Rules.{rules}
 use Rattle.vector.proofs.Vec3.longest.Goals as goal
 
 pub returns : goal.returns

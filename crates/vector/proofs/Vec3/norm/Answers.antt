@@ -1,4 +1,3 @@
-use borrow.Author.Rules.{rules}
 use Rattle.vector.proofs.Vec3.norm.Goals as goal
 
 pub returns : goal.returns

@@ -1,6 +1,5 @@
 use native.Mathlib.Omega.{arith}
 use lib.ListN.{length-set}
-use borrow.Author.Rules.{rules}
 use Rattle.vector.proofs.inner.put_vector.Goals as goal
 
 pub bounds-out-b-2 : goal.bounds-out-b-2

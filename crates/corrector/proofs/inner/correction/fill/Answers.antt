@@ -1,16 +1,13 @@
 use Rattle.corrector.specs.Correction.{correcting, corrected_flux_at}
-use Rattle.mesh.proofs.Pass.{Passed, start, more, finish, stop}
-use Rattle.mesh.specs.declared.Outcome.{Outcome}
+use Rattle.mesh.proofs.Pass.{start, more, finish, stop}
 use lib.ListN.{length}
 use native.Mathlib.Omega.{arith}
-use Prim.Native.Nat.{ℕ, ◌-◌}
-use mathlib.Core.Path.{◌≡◌, sym, ◌∙◌}
-use borrow.Author.Rules.{rules}
+use mathlib.Core.Path.{sym, ◌∙◌}
 use Rattle.corrector.proofs.inner.correction.fill.Goals as goal
 
 pub loop-face-init : goal.loop-face-init
 loop-face-init c =
-    start ((corrected_flux_at (correcting c.args.adjacency.now c.args.codes.now c.args.values.now c.args.predicted.now c.args.coefficients.now c.args.correction.now))) (length c.args.predicted.now) c.args.out.now c.requires.out_len
+    start (corrected_flux_at (correcting c.args.adjacency.now c.args.codes.now c.args.values.now c.args.predicted.now c.args.coefficients.now c.args.correction.now)) (length c.args.predicted.now) c.args.out.now c.requires.out_len
 
 pub flux_at-requires : goal.flux_at-requires
 flux_at-requires c =
@@ -34,7 +31,7 @@ shape_of-out-in-Bad c =
 pub returns-in-Bad : goal.returns-in-Bad
 returns-in-Bad c =
     record {
-      passes = (sym (stop ((corrected_flux_at (correcting c.args.adjacency.now c.args.codes.now c.args.values.now c.args.predicted.now c.args.coefficients.now c.args.correction.now))) (length c.args.predicted.now) c.loop-face.out c.loop-face.face _ c.loop-face.invariant c.loop-face-test.true (sym c.flux_at.ensures.answer ∙ c.in-Bad.is)), λ e. cc);
+      passes = (sym (stop (corrected_flux_at (correcting c.args.adjacency.now c.args.codes.now c.args.values.now c.args.predicted.now c.args.coefficients.now c.args.correction.now)) (length c.args.predicted.now) c.loop-face.out c.loop-face.face _ c.loop-face.invariant c.loop-face-test.true (sym c.flux_at.ensures.answer ∙ c.in-Bad.is)), λ e. cc);
     }
 
 pub overflow_add-face : goal.overflow_add-face
@@ -47,7 +44,7 @@ loop-face-smaller c =
 
 pub loop-face-preserved : goal.loop-face-preserved
 loop-face-preserved c =
-    more ((corrected_flux_at (correcting c.args.adjacency.now c.args.codes.now c.args.values.now c.args.predicted.now c.args.coefficients.now c.args.correction.now))) (length c.args.predicted.now) c.loop-face.out c.loop-face.face _ c.loop-face.invariant c.loop-face-test.true (sym c.flux_at.ensures.answer ∙ c.in-Value.is)
+    more (corrected_flux_at (correcting c.args.adjacency.now c.args.codes.now c.args.values.now c.args.predicted.now c.args.coefficients.now c.args.correction.now)) (length c.args.predicted.now) c.loop-face.out c.loop-face.face _ c.loop-face.invariant c.loop-face-test.true (sym c.flux_at.ensures.answer ∙ c.in-Value.is)
 
 pub shape_of-out : goal.shape_of-out
 shape_of-out c =
@@ -55,7 +52,7 @@ shape_of-out c =
 
 pub returns : goal.returns
 returns c =
-    let w = finish ((corrected_flux_at (correcting c.args.adjacency.now c.args.codes.now c.args.values.now c.args.predicted.now c.args.coefficients.now c.args.correction.now))) (length c.args.predicted.now) c.loop-face.out c.loop-face.face c.loop-face.invariant c.loop-face-test.false in
+    let w = finish (corrected_flux_at (correcting c.args.adjacency.now c.args.codes.now c.args.values.now c.args.predicted.now c.args.coefficients.now c.args.correction.now)) (length c.args.predicted.now) c.loop-face.out c.loop-face.face c.loop-face.invariant c.loop-face-test.false in
     record {
       passes = (sym w.0, λ _. w.1);
     }

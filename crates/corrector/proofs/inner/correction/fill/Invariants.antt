@@ -1,11 +1,7 @@
 use Rattle.corrector.specs.Correction.{correcting, corrected_flux_at}
-use Rattle.mesh.proofs.Pass.{Passed, start, more, finish, stop}
-use Rattle.mesh.specs.declared.Outcome.{Outcome}
+use Rattle.mesh.proofs.Pass.{Passed}
 use lib.ListN.{length}
-use native.Mathlib.Omega.{arith}
-use Prim.Native.Nat.{ℕ, ◌-◌}
-use mathlib.Core.Path.{◌≡◌, sym, ◌∙◌}
-use borrow.Author.Rules.{rules}
+use Prim.Native.Nat.{◌-◌}
 use Rattle.corrector.proofs.inner.correction.fill.Given as goal
 
 abbrev pub invariant-loop-face : goal.invariant-loop-face

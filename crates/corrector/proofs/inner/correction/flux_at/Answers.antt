@@ -2,9 +2,8 @@ use Rattle.corrector.specs.Correction.{corrected_flux_at}
 use borrow.Author.Tests.{eq-eqb, ne_eqb}
 use lib.ListN.{length}
 use native.Mathlib.Omega.{arith}
-use Prim.Native.Nat.{ℕ, ◌+◌, ◌-◌, ◌*◌, ◌<◌}
-use mathlib.Core.Path.{◌≡◌, sym, ◌∙◌, subst}
-use borrow.Author.Rules.{rules}
+use Prim.Native.Nat.{ℕ, ◌-◌, ◌<◌}
+use mathlib.Core.Path.{sym, ◌∙◌, subst}
 use Rattle.corrector.proofs.inner.correction.flux_at.Goals as goal
 
 pub offset_bounds-correction-o : goal.offset_bounds-correction-o

@@ -1,5 +1,4 @@
 use Rattle.corrector.specs.Correction.{wall_flux}
-use borrow.Author.Rules.{rules}
 use Rattle.corrector.proofs.inner.correction.wall_flux.Goals as goal
 
 pub returns-in-Absent : goal.returns-in-Absent

@@ -1,11 +1,8 @@
 use Rattle.corrector.specs.Diagonal.{inverse_at}
-use Rattle.mesh.proofs.Pass.{Passed, start, more, finish, stop}
-use Rattle.mesh.specs.declared.Outcome.TheVariants.{Value, Bad}
+use Rattle.mesh.proofs.Pass.{start, more, finish, stop}
 use lib.ListN.{length}
 use native.Mathlib.Omega.{arith}
-use Prim.Native.Nat.{◌-◌}
-use mathlib.Core.Path.{◌≡◌, sym, ◌∙◌}
-use borrow.Author.Rules.{rules}
+use mathlib.Core.Path.{sym, ◌∙◌}
 use Rattle.corrector.proofs.inner.diagonal.invert.Goals as goal
 
 pub loop-c-init : goal.loop-c-init

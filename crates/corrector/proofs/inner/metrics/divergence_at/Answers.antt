@@ -1,6 +1,5 @@
 use mathlib.Core.Path.{◌∙◌}
 use Rattle.corrector.specs.Metrics.{divergence_at}
-use borrow.Author.Rules.{rules}
 use Rattle.corrector.proofs.inner.metrics.divergence_at.Goals as goal
 
 pub returns : goal.returns

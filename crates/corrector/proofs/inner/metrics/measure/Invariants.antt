@@ -1,14 +1,7 @@
-use Rattle.mesh.proofs.Pass.{refused_at}
-use Rattle.corrector.proofs.Largest.{Surveyed, start, more, finish}
-use Rattle.corrector.specs.Metrics.{divergence_at, measured_by}
-use Rattle.corrector.specs.declared.inner.metrics.Metrics.TheVariants.{Measured}
-use Rattle.mesh.specs.declared.Outcome.{Outcome}
+use Rattle.corrector.proofs.Largest.{Surveyed}
+use Rattle.corrector.specs.Metrics.{divergence_at}
 use lib.ListN.{length}
-use lib.Ieee.{Float}
-use native.Mathlib.Omega.{arith}
-use Prim.Native.Nat.{ℕ, ◌-◌, ◌≤◌, zero-le}
-use mathlib.Core.Path.{◌≡◌, refl, sym, ◌∙◌, ap}
-use borrow.Author.Rules.{rules}
+use Prim.Native.Nat.{◌-◌}
 use Rattle.corrector.proofs.inner.metrics.measure.Given as goal
 
 abbrev pub invariant-loop-c : goal.invariant-loop-c

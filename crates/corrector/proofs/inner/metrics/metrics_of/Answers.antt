@@ -1,6 +1,5 @@
 use Rattle.corrector.specs.Metrics.{metrics_of}
 use borrow.Author.Tests.{not-true, not-false}
-use borrow.Author.Rules.{rules}
 use Rattle.corrector.proofs.inner.metrics.metrics_of.Goals as goal
 
 pub returns-then-not-finite : goal.returns-then-not-finite

@@ -7,7 +7,6 @@ use native.Mathlib.Omega.{arith}
 use Prim.Native.Nat.{ℕ}
 use mathlib.Core.List.{List, [], ◌∷◌}
 use mathlib.Core.Path.{◌≡◌, refl, sym, ◌∙◌, ap}
-use borrow.Author.Rules.{rules}
 use Rattle.corrector.proofs.inner.metrics.outflow_metrics.Goals as goal
 
 -- a list of two numbers with both written

@@ -7,7 +7,6 @@ use Prim.Native.Nat.{◌≤◌, ◌^◌}
 use mathlib.Core.Bool.{Bool}
 use mathlib.Core.Path.{sym, subst}
 use Rattle.corrector.specs.Metrics.{root_mean_square}
-use borrow.Author.Rules.{rules}
 use Rattle.corrector.proofs.inner.metrics.root_mean_square.Goals as goal
 
 pub int_to_float-outflow : goal.int_to_float-outflow

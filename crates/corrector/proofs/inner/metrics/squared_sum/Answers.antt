@@ -1,11 +1,10 @@
 use Rattle.corrector.specs.Metrics.{squared_sum}
-use lib.Ieee.{nan}
-use lib.ListN.{length, get_or}
+use lib.ListN.{length}
 use native.Mathlib.Numerals.{add-one, add-one-le}
 use native.Mathlib.Nat.{le_antisymm}
 use native.Mathlib.Omega.{arith}
-use Prim.Native.Nat.{ℕ, ◌-◌, ◌≤◌, zero-le}
-use mathlib.Core.Path.{◌≡◌, refl, sym, ◌∙◌, ap}
+use Prim.Native.Nat.{zero-le}
+use mathlib.Core.Path.{◌≡◌, refl, ◌∙◌, ap}
 use Rattle.corrector.proofs.inner.metrics.squared_sum.Goals as goal
 
 pub loop-c-init : goal.loop-c-init

@@ -1,19 +1,18 @@
 use Rattle.corrector.specs.Velocity.{corrected_at, fails_at}
 use Rattle.vector.proofs.Vectors as vectors
 use Rattle.chain.proofs.Search as search
-use Rattle.vector.specs.declared.Vec3.{Vec3}
 use lib.Ieee.{Float}
 use lib.ListN.{length}
 use native.Mathlib.Omega.{arith}
-use Prim.Native.Nat.{ℕ, ◌+◌, ◌-◌}
+use Prim.Native.Nat.{◌+◌}
 use mathlib.Core.List.{List}
-use mathlib.Core.Bool.{Bool, true, false}
-use mathlib.Core.Path.{◌≡◌, refl, sym, ◌∙◌, ap, subst}
+use mathlib.Core.Bool.{true, false}
+use mathlib.Core.Path.{◌≡◌, sym, ◌∙◌, subst}
 use Rattle.corrector.proofs.inner.velocity.correct.Goals as goal
 
 pub loop-c-init : goal.loop-c-init
 loop-c-init c =
-    (search.start ((fails_at c.args.velocity.now c.args.responses.now c.args.gradient.now)) (length c.args.responses.now), vectors.start ((corrected_at c.args.velocity.now c.args.responses.now c.args.gradient.now)) (length c.args.responses.now) c.args.out.now c.requires.lent.2)
+    (search.start (fails_at c.args.velocity.now c.args.responses.now c.args.gradient.now) (length c.args.responses.now), vectors.start (corrected_at c.args.velocity.now c.args.responses.now c.args.gradient.now) (length c.args.responses.now) c.args.out.now c.requires.lent.2)
 
 pub corrected_at-v-requires : goal.corrected_at-v-requires
 corrected_at-v-requires c =
@@ -36,7 +35,7 @@ unfolding fails_at
 returns-then-not-stands c =
     let f : (fails_at c.args.velocity.now c.args.responses.now c.args.gradient.now) c.loop-c.c ≡ true = rw (← c.corrected_at-v.ensures, ← c.stands.ensures) c.if-not-stands.true-raw in
     record {
-      answer = sym (search.found ((fails_at c.args.velocity.now c.args.responses.now c.args.gradient.now)) (length c.args.responses.now) c.loop-c.c c.loop-c.invariant.0 c.loop-c-test.true f);
+      answer = sym (search.found (fails_at c.args.velocity.now c.args.responses.now c.args.gradient.now) (length c.args.responses.now) c.loop-c.c c.loop-c.invariant.0 c.loop-c-test.true f);
       gives = λ e. cc;
     }
 
@@ -56,9 +55,9 @@ pub loop-c-preserved : goal.loop-c-preserved
 unfolding fails_at
 loop-c-preserved c =
     let f : (fails_at c.args.velocity.now c.args.responses.now c.args.gradient.now) c.loop-c.c ≡ false = rw (← c.corrected_at-v.ensures, ← c.stands.ensures) c.if-not-stands.false-raw in (
-      search.more ((fails_at c.args.velocity.now c.args.responses.now c.args.gradient.now)) (length c.args.responses.now) c.loop-c.c c.loop-c.invariant.0 c.loop-c-test.true f,
-      subst (λ (o : List Float). vectors.Written ((corrected_at c.args.velocity.now c.args.responses.now c.args.gradient.now)) (length c.args.responses.now) o (c.loop-c.c + 1)) (sym c.put_vector.ensures)
-          (vectors.more ((corrected_at c.args.velocity.now c.args.responses.now c.args.gradient.now)) (length c.args.responses.now) c.loop-c.out c.loop-c.c c.corrected_at-v.result c.loop-c.invariant.1 c.loop-c-test.true c.corrected_at-v.ensures),
+      search.more (fails_at c.args.velocity.now c.args.responses.now c.args.gradient.now) (length c.args.responses.now) c.loop-c.c c.loop-c.invariant.0 c.loop-c-test.true f,
+      subst (λ (o : List Float). vectors.Written (corrected_at c.args.velocity.now c.args.responses.now c.args.gradient.now) (length c.args.responses.now) o (c.loop-c.c + 1)) (sym c.put_vector.ensures)
+          (vectors.more (corrected_at c.args.velocity.now c.args.responses.now c.args.gradient.now) (length c.args.responses.now) c.loop-c.out c.loop-c.c c.corrected_at-v.result c.loop-c.invariant.1 c.loop-c-test.true c.corrected_at-v.ensures),
     )
 
 pub shape_of-out : goal.shape_of-out
@@ -68,6 +67,6 @@ shape_of-out c =
 pub returns : goal.returns
 returns c =
     record {
-      answer = sym (search.nothing ((fails_at c.args.velocity.now c.args.responses.now c.args.gradient.now)) (length c.args.responses.now) c.loop-c.c c.loop-c.invariant.0 c.loop-c-test.false);
-      gives = λ _. vectors.finish ((corrected_at c.args.velocity.now c.args.responses.now c.args.gradient.now)) (length c.args.responses.now) c.loop-c.out c.loop-c.c c.loop-c.invariant.1 c.loop-c-test.false;
+      answer = sym (search.nothing (fails_at c.args.velocity.now c.args.responses.now c.args.gradient.now) (length c.args.responses.now) c.loop-c.c c.loop-c.invariant.0 c.loop-c-test.false);
+      gives = λ _. vectors.finish (corrected_at c.args.velocity.now c.args.responses.now c.args.gradient.now) (length c.args.responses.now) c.loop-c.out c.loop-c.c c.loop-c.invariant.1 c.loop-c-test.false;
     }

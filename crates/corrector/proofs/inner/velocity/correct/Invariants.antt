@@ -1,14 +1,8 @@
 use Rattle.corrector.specs.Velocity.{corrected_at, fails_at}
 use Rattle.vector.proofs.Vectors as vectors
 use Rattle.chain.proofs.Search as search
-use Rattle.vector.specs.declared.Vec3.{Vec3}
-use lib.Ieee.{Float}
 use lib.ListN.{length}
-use native.Mathlib.Omega.{arith}
-use Prim.Native.Nat.{ℕ, ◌+◌, ◌-◌}
-use mathlib.Core.List.{List}
-use mathlib.Core.Bool.{Bool, true, false}
-use mathlib.Core.Path.{◌≡◌, refl, sym, ◌∙◌, ap, subst}
+use Prim.Native.Nat.{◌-◌}
 use Rattle.corrector.proofs.inner.velocity.correct.Given as goal
 
 abbrev pub invariant-loop-c : goal.invariant-loop-c

@@ -2,11 +2,8 @@ use Rattle.binary64.specs.Numbers.{zero64}
 use lib.ListN.{replicate}
 use Rattle.mesh.specs.Pass.{handed_out}
 use Rattle.mesh.specs.Answers.{at}
-use mathlib.Core.List.{List}
-use lib.Ieee.{Float}
 use Prim.Native.Nat.{ℕ}
-use lib.ListN.{length}
-use mathlib.Core.Path.{◌≡◌, sym, ◌∙◌, ap}
+use mathlib.Core.Path.{◌∙◌, ap}
 use borrow.Author.Rules.{rules}
 use Rattle.corrector.proofs.inner.velocity.correct_cell_velocity_from_gradient.Goals as goal
 

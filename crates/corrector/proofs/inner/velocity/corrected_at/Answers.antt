@@ -1,5 +1,4 @@
 use Rattle.corrector.specs.Velocity.{corrected_at}
-use borrow.Author.Rules.{rules}
 use Rattle.corrector.proofs.inner.velocity.corrected_at.Goals as goal
 
 pub returns : goal.returns

@@ -1,5 +1,4 @@
 use Rattle.numerics.specs.Gradient.{add_term}
-use borrow.Author.Rules.{rules}
 use Rattle.numerics.proofs.inner.gradient.add_term.Goals as goal
 
 pub returns : goal.returns

@@ -7,6 +7,7 @@ use Rattle.numerics.proofs.inner.gradient.gradient_at.Goals as goal
 
 pub right_side-right-requires : goal.right_side-right-requires
 right_side-right-requires c = search rules
+
 -- CLAUSES sloped c_in_bounds
 
 pub times_inverse-requires : goal.times_inverse-requires

@@ -1,12 +1,8 @@
-use mathlib.Core.Path.{sym, ◌∙◌, subst}
-use mathlib.Core.List.{List}
-use Prim.Native.Nat.{◌+◌, ◌-◌}
-use native.Mathlib.Omega.{arith}
+use Prim.Native.Nat.{◌-◌}
 use lib.ListN.{length}
-use lib.Ieee.{Float}
-use Rattle.vector.proofs.Vectors.{Written, start, more, finish}
+use Rattle.vector.proofs.Vectors.{Written}
 use Rattle.numerics.specs.Slices.{slices}
-use Rattle.numerics.specs.Gradient.{gradient_at, gradients}
+use Rattle.numerics.specs.Gradient.{gradient_at}
 use Rattle.numerics.proofs.inner.gradient.least_squares_gradient.Given as goal
 
 abbrev pub invariant-loop-c : goal.invariant-loop-c

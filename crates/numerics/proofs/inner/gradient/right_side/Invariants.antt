@@ -1,15 +1,14 @@
-use mathlib.Core.Path.{◌≡◌, refl, sym, ◌∙◌, subst}
+use mathlib.Core.Path.{◌≡◌, sym, ◌∙◌}
 use mathlib.Core.List.{List}
-use Prim.Native.Nat.{ℕ, ◌+◌, ◌-◌, ◌*◌, ◌≤◌, ◌<◌}
+use Prim.Native.Nat.{ℕ, ◌+◌, ◌≤◌, ◌<◌}
 use native.Mathlib.Omega.{arith}
-use native.Mathlib.Nat.{le_refl, le_trans, le_of_lt, lt_of_le_of_lt}
 use lib.ListN.{length, get_or}
 use lib.Ieee.{Float, nan}
 use Rattle.chain.specs.Chains.{next_of, trail, Chain}
 use Rattle.vector.specs.declared.Vec3.{Vec3}
-use Rattle.chain.proofs.Chains.{Onward, onward, room, trail_on, trail_over}
+use Rattle.chain.proofs.Chains.{Onward, onward, trail_on}
 use Rattle.numerics.specs.Slices.{Slices, slices}
-use Rattle.numerics.specs.Gradient.{Sloped, add_term, add_terms, right_side}
+use Rattle.numerics.specs.Gradient.{add_term, add_terms, right_side}
 use Rattle.numerics.proofs.inner.gradient.right_side.Given as goal
 
 -- ---- one record on

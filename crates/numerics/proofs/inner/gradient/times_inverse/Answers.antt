@@ -1,5 +1,4 @@
 use Rattle.numerics.specs.Gradient.{product}
-use borrow.Author.Rules.{rules}
 use Rattle.numerics.proofs.inner.gradient.times_inverse.Goals as goal
 
 pub returns : goal.returns

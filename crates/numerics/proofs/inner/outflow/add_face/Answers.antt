@@ -2,7 +2,7 @@ use mathlib.Core.Path.{◌≡◌}
 use Prim.Native.Nat.{ℕ, ◌-◌, ◌<◌, ◌≤◌}
 use native.Mathlib.Omega.{arith}
 use lib.ListN.{length, length-set}
-use borrow.Author.Rules.{rules, scaled_Fits}
+use borrow.Author.Rules.{scaled_Fits}
 use borrow.Author.Tests.{eq-eqb, ne_eqb}
 use Rattle.numerics.specs.Outflow.{scatter_face}
 use Rattle.numerics.proofs.inner.outflow.add_face.Goals as goal

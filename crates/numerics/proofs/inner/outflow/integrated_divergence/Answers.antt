@@ -1,5 +1,5 @@
 use mathlib.Core.Path.{◌≡◌, refl, sym, ◌∙◌, ap, subst}
-use Prim.Native.Nat.{ℕ, ◌-◌, ◌≤◌, zero-le}
+use Prim.Native.Nat.{ℕ, zero-le}
 use native.Mathlib.Omega.{arith}
 use native.Mathlib.Nat.{le_antisymm}
 use native.Mathlib.Numerals.{add-one, add-one-le}
@@ -28,12 +28,11 @@ loop-f-smaller c = omega (arith, c.loop-f-test.true)
 
 pub loop-f-preserved : goal.loop-f-preserved
 unfolding scatter
-loop-f-preserved c =
-     (
-      add-one-le c.loop-f-test.true,
-      c.add_face.auto.out ∙ c.loop-f.invariant.1,
-      c.add_face.ensures ∙ ap (scatter_face (faces_of c.args.adjacency.now c.args.flux.now) c.loop-f.f) c.loop-f.invariant.2 ∙ sym (rw add-one),
-    )
+loop-f-preserved c = (
+  add-one-le c.loop-f-test.true,
+  c.add_face.auto.out ∙ c.loop-f.invariant.1,
+  c.add_face.ensures ∙ ap (scatter_face (faces_of c.args.adjacency.now c.args.flux.now) c.loop-f.f) c.loop-f.invariant.2 ∙ sym (rw add-one),
+)
 
 pub shape_of-out : goal.shape_of-out
 shape_of-out c = c.loop-f.invariant.1 ∙ c.clear.auto.out

@@ -1,12 +1,7 @@
-use mathlib.Core.Path.{◌≡◌, refl, sym, ◌∙◌, ap, subst}
-use Prim.Native.Nat.{ℕ, ◌-◌, ◌≤◌, zero-le}
-use native.Mathlib.Omega.{arith}
-use native.Mathlib.Nat.{le_antisymm}
-use native.Mathlib.Numerals.{add-one, add-one-le}
-use mathlib.Core.List.{List}
+use mathlib.Core.Path.{◌≡◌}
+use Prim.Native.Nat.{◌-◌, ◌≤◌}
 use lib.ListN.{length}
-use lib.Ieee.{Float}
-use Rattle.numerics.specs.Outflow.{Flows, faces_of, scatter_face, scatter, outflows}
+use Rattle.numerics.specs.Outflow.{faces_of, scatter}
 use Rattle.numerics.proofs.inner.outflow.integrated_divergence.Given as goal
 
 abbrev pub invariant-loop-f : goal.invariant-loop-f

@@ -1,7 +1,7 @@
 use Rattle.predictor.specs.Boundary.{boundary_at}
 use borrow.Author.Tests.{eq-eqb, ne_eqb}
 use native.Mathlib.Omega.{arith}
-use mathlib.Core.Path.{◌≡◌, sym, ◌∙◌}
+use mathlib.Core.Path.{sym, ◌∙◌}
 use borrow.Author.Rules.{rules}
 use Rattle.predictor.proofs.inner.boundary.boundary_at.Goals as goal
 

@@ -1,25 +1,24 @@
 use Rattle.predictor.proofs.Sides.{owned, in_places}
-use Rattle.coupling.specs.Grid.{Grid, grid}
+use Rattle.coupling.specs.Grid.{grid}
 use Rattle.predictor.specs.Boundary.{by_condition}
 use lib.ListN.{length}
 use native.Mathlib.Omega.{arith}
-use mathlib.Core.Path.{◌≡◌, sym, ◌∙◌}
-use borrow.Author.Rules.{rules}
+use mathlib.Core.Path.{◌∙◌}
 use Rattle.predictor.proofs.inner.boundary.by_condition.Goals as goal
 
 pub cell_at-owner-requires : goal.cell_at-owner-requires
 cell_at-owner-requires c =
     let n = length c.args.responses.now in
-    in_places ((grid c.args.adjacency.now c.args.geometry.now c.args.places.now)) n c.args.faces _ c.requires.coupled (owned ((grid c.args.adjacency.now c.args.geometry.now c.args.places.now)) n c.args.faces c.args.f c.requires.coupled c.requires.f_lt_faces c.face_at-face.result c.face_at-face.ensures)
+    in_places (grid c.args.adjacency.now c.args.geometry.now c.args.places.now) n c.args.faces _ c.requires.coupled (owned (grid c.args.adjacency.now c.args.geometry.now c.args.places.now) n c.args.faces c.args.f c.requires.coupled c.requires.f_lt_faces c.face_at-face.result c.face_at-face.ensures)
 
 pub offset_bounds-responses-o : goal.offset_bounds-responses-o
 offset_bounds-responses-o c =
-    let h = owned ((grid c.args.adjacency.now c.args.geometry.now c.args.places.now)) (length c.args.responses.now) c.args.faces c.args.f c.requires.coupled c.requires.f_lt_faces c.face_at-face.result c.face_at-face.ensures in
+    let h = owned (grid c.args.adjacency.now c.args.geometry.now c.args.places.now) (length c.args.responses.now) c.args.faces c.args.f c.requires.coupled c.requires.f_lt_faces c.face_at-face.result c.face_at-face.ensures in
     omega (arith, h)
 
 pub bounds-responses-o : goal.bounds-responses-o
 bounds-responses-o c =
-    owned ((grid c.args.adjacency.now c.args.geometry.now c.args.places.now)) (length c.args.responses.now) c.args.faces c.args.f c.requires.coupled c.requires.f_lt_faces c.face_at-face.result c.face_at-face.ensures
+    owned (grid c.args.adjacency.now c.args.geometry.now c.args.places.now) (length c.args.responses.now) c.args.faces c.args.f c.requires.coupled c.requires.f_lt_faces c.face_at-face.result c.face_at-face.ensures
 
 pub returns-in-Fixed : goal.returns-in-Fixed
 unfolding by_condition

@@ -1,15 +1,10 @@
-use Rattle.passes.proofs.Completed.{Completes, begun, still, further, ended, halted}
-use Rattle.passes.proofs.Stages.{never_accepted}
+use Rattle.passes.proofs.Completed.{Completes}
 use Rattle.mesh.specs.Mesh.{bounds}
-use Rattle.predictor.specs.Boundary.{Bounded, coefficient_at}
+use Rattle.predictor.specs.Boundary.{coefficient_at}
 use Rattle.predictor.specs.Coefficients.{internal_at}
-use Rattle.coupling.specs.Grid.{Coupled, grid}
-use Rattle.mesh.specs.declared.Outcome.{Outcome}
+use Rattle.coupling.specs.Grid.{grid}
 use lib.ListN.{length}
-use native.Mathlib.Omega.{arith}
-use Prim.Native.Nat.{ℕ, ◌-◌}
-use mathlib.Core.Path.{◌≡◌, refl, sym, ◌∙◌, subst}
-use borrow.Author.Rules.{rules}
+use Prim.Native.Nat.{◌-◌}
 use Rattle.predictor.proofs.inner.boundary.complete.Given as goal
 
 abbrev pub invariant-loop-f : goal.invariant-loop-f

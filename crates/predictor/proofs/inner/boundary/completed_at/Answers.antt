@@ -1,6 +1,6 @@
 use Rattle.predictor.specs.Boundary.{coefficient_at}
 use borrow.Author.Tests.{eq-eqb, ne_eqb}
-use mathlib.Core.Path.{◌≡◌, sym, ◌∙◌}
+use mathlib.Core.Path.{sym, ◌∙◌}
 use borrow.Author.Rules.{rules}
 use Rattle.predictor.proofs.inner.boundary.completed_at.Goals as goal
 

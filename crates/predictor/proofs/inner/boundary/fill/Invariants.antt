@@ -1,15 +1,10 @@
-use Rattle.passes.specs.Staged.{late_after}
-use Rattle.passes.proofs.Stages.{not_late, Both, start, more, stop, finish}
-use Rattle.coupling.specs.Grid.{grid, Coupled}
+use Rattle.passes.proofs.Stages.{Both}
+use Rattle.coupling.specs.Grid.{grid}
 use Rattle.predictor.specs.Coefficients.{internal_at}
 use Rattle.mesh.specs.Mesh.{bounds}
-use Rattle.predictor.specs.Boundary.{Bounded, coefficient_at}
-use Rattle.mesh.specs.declared.Outcome.{Outcome}
+use Rattle.predictor.specs.Boundary.{coefficient_at}
 use lib.ListN.{length}
-use native.Mathlib.Omega.{arith}
-use Prim.Native.Nat.{ℕ, ◌-◌}
-use mathlib.Core.Path.{◌≡◌, refl, sym, ◌∙◌, subst}
-use mathlib.Core.Logic.{⊎_elim}
+use Prim.Native.Nat.{◌-◌}
 use Rattle.predictor.proofs.inner.boundary.fill.Given as goal
 
 abbrev pub invariant-loop-f : goal.invariant-loop-f

@@ -1,6 +1,5 @@
 use Rattle.passes.proofs.Stages.{settled}
 use lib.ListN.{length}
-use mathlib.Core.Path.{◌≡◌, sym, ◌∙◌, ap}
 use borrow.Author.Rules.{rules}
 use Rattle.predictor.proofs.inner.boundary.pressure_face_coefficients_with_boundary.Goals as goal
 

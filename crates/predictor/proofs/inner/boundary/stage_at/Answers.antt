@@ -2,7 +2,7 @@ use Rattle.passes.specs.Staged.{staged}
 use Rattle.predictor.specs.Coefficients.{internal_at}
 use Rattle.predictor.specs.Boundary.{coefficient_at}
 use borrow.Author.Tests.{eq-eqb, ne_eqb}
-use mathlib.Core.Path.{◌≡◌, sym, ◌∙◌}
+use mathlib.Core.Path.{sym, ◌∙◌}
 use borrow.Author.Rules.{rules}
 use Rattle.predictor.proofs.inner.boundary.stage_at.Goals as goal
 

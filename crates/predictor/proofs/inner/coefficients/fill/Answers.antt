@@ -1,17 +1,15 @@
 use Rattle.coupling.specs.Grid.{grid, Coupled}
 use Rattle.predictor.specs.Coefficients.{internal_at}
-use Rattle.mesh.specs.declared.Outcome.{Outcome}
-use Rattle.mesh.proofs.Pass.{Passed, start, more, finish, stop}
+use Rattle.mesh.proofs.Pass.{start, more, finish, stop}
 use lib.ListN.{length}
 use native.Mathlib.Omega.{arith}
-use Prim.Native.Nat.{ℕ, ◌-◌}
-use mathlib.Core.Path.{◌≡◌, refl, sym, ◌∙◌, subst}
-use borrow.Author.Rules.{rules}
+use Prim.Native.Nat.{ℕ}
+use mathlib.Core.Path.{refl, sym, ◌∙◌, subst}
 use Rattle.predictor.proofs.inner.coefficients.fill.Goals as goal
 
 pub loop-f-init : goal.loop-f-init
 loop-f-init c =
-    start ((internal_at (grid c.args.adjacency.now c.args.geometry.now c.args.places.now) c.args.responses.now)) (length c.args.out.now) c.args.out.now refl
+    start (internal_at (grid c.args.adjacency.now c.args.geometry.now c.args.places.now) c.args.responses.now) (length c.args.out.now) c.args.out.now refl
 
 pub internal_at-requires : goal.internal_at-requires
 internal_at-requires c =
@@ -35,7 +33,7 @@ shape_of-out-in-Bad c =
 pub returns-in-Bad : goal.returns-in-Bad
 returns-in-Bad c =
     record {
-      passes = (sym (stop ((internal_at (grid c.args.adjacency.now c.args.geometry.now c.args.places.now) c.args.responses.now)) (length c.args.out.now) c.loop-f.out c.loop-f.f _ c.loop-f.invariant (omega (arith, c.loop-f-test.true, c.loop-f.invariant.size)) (sym c.internal_at.ensures.answer ∙ c.in-Bad.is)), λ e. cc);
+      passes = (sym (stop (internal_at (grid c.args.adjacency.now c.args.geometry.now c.args.places.now) c.args.responses.now) (length c.args.out.now) c.loop-f.out c.loop-f.f _ c.loop-f.invariant (omega (arith, c.loop-f-test.true, c.loop-f.invariant.size)) (sym c.internal_at.ensures.answer ∙ c.in-Bad.is)), λ e. cc);
     }
 
 pub overflow_add-f : goal.overflow_add-f
@@ -48,14 +46,14 @@ loop-f-smaller c =
 
 pub loop-f-preserved : goal.loop-f-preserved
 loop-f-preserved c =
-    more ((internal_at (grid c.args.adjacency.now c.args.geometry.now c.args.places.now) c.args.responses.now)) (length c.args.out.now) c.loop-f.out c.loop-f.f _ c.loop-f.invariant (omega (arith, c.loop-f-test.true, c.loop-f.invariant.size)) (sym c.internal_at.ensures.answer ∙ c.in-Value.is)
+    more (internal_at (grid c.args.adjacency.now c.args.geometry.now c.args.places.now) c.args.responses.now) (length c.args.out.now) c.loop-f.out c.loop-f.f _ c.loop-f.invariant (omega (arith, c.loop-f-test.true, c.loop-f.invariant.size)) (sym c.internal_at.ensures.answer ∙ c.in-Value.is)
 
 pub shape_of-out : goal.shape_of-out
 shape_of-out c = c.loop-f.invariant.size
 
 pub returns : goal.returns
 returns c =
-    let w = finish ((internal_at (grid c.args.adjacency.now c.args.geometry.now c.args.places.now) c.args.responses.now)) (length c.args.out.now) c.loop-f.out c.loop-f.f c.loop-f.invariant (omega (arith, c.loop-f-test.false, c.loop-f.invariant.size)) in
+    let w = finish (internal_at (grid c.args.adjacency.now c.args.geometry.now c.args.places.now) c.args.responses.now) (length c.args.out.now) c.loop-f.out c.loop-f.f c.loop-f.invariant (omega (arith, c.loop-f-test.false, c.loop-f.invariant.size)) in
     record {
       passes = (sym w.0, λ _. w.1);
     }

@@ -1,12 +1,8 @@
-use Rattle.coupling.specs.Grid.{grid, Coupled}
+use Rattle.coupling.specs.Grid.{grid}
 use Rattle.predictor.specs.Coefficients.{internal_at}
-use Rattle.mesh.specs.declared.Outcome.{Outcome}
-use Rattle.mesh.proofs.Pass.{Passed, start, more, finish, stop}
+use Rattle.mesh.proofs.Pass.{Passed}
 use lib.ListN.{length}
-use native.Mathlib.Omega.{arith}
-use Prim.Native.Nat.{ℕ, ◌-◌}
-use mathlib.Core.Path.{◌≡◌, refl, sym, ◌∙◌, subst}
-use borrow.Author.Rules.{rules}
+use Prim.Native.Nat.{◌-◌}
 use Rattle.predictor.proofs.inner.coefficients.fill.Given as goal
 
 abbrev pub invariant-loop-f : goal.invariant-loop-f

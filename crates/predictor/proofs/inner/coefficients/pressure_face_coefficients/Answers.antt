@@ -1,7 +1,5 @@
 use Rattle.passes.proofs.Stages.{settled}
 use lib.ListN.{length}
-use mathlib.Core.Path.{◌≡◌, sym, ◌∙◌, ap}
-use borrow.Author.Rules.{rules}
 use Rattle.predictor.proofs.inner.coefficients.pressure_face_coefficients.Goals as goal
 
 pub returns : goal.returns

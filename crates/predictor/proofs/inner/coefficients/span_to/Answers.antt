@@ -1,4 +1,3 @@
-use borrow.Author.Rules.{rules}
 use Rattle.predictor.proofs.inner.coefficients.span_to.Goals as goal
 
 pub returns : goal.returns

@@ -1,21 +1,18 @@
 use Rattle.passes.specs.Staged.{late_after}
-use Rattle.passes.proofs.Stages.{never_accepted, not_late, Both, start, more, stop, finish, Stores, empty, stored, filled}
+use Rattle.passes.proofs.Stages.{never_accepted, not_late, start, more, stop, finish, empty, stored, filled}
 use Rattle.predictor.specs.Prediction.{flow, predicted_at}
 use Rattle.coupling.specs.Grid.{grid}
 use Rattle.predictor.specs.Coefficients.{internal_at}
-use Rattle.mesh.specs.declared.Outcome.{Outcome}
 use lib.ListN.{length}
 use native.Mathlib.Nat.{le_antisymm}
 use native.Mathlib.Omega.{arith}
-use Prim.Native.Nat.{ℕ, ◌-◌}
 use mathlib.Core.Path.{◌≡◌, refl, sym, ◌∙◌}
-use mathlib.Core.Logic.{⊎_elim}
 use Rattle.predictor.proofs.inner.prediction.predict.Goals as goal
 use Rattle.predictor.proofs.inner.prediction.predict.Goals.{then-is_late, else-is_late}
 
 pub loop-f-init : goal.loop-f-init
 loop-f-init c =
-    (start ((internal_at (grid c.args.adjacency.now c.args.geometry.now c.args.places.now) c.args.responses.now)) ((predicted_at (grid c.args.adjacency.now c.args.geometry.now c.args.places.now) (flow c.args.velocity.now c.args.pressure.now c.args.gradient.now c.args.responses.now) c.args.walls.now)) (length c.args.walls.now) c.args.out.now c.requires.out_len, empty ((internal_at (grid c.args.adjacency.now c.args.geometry.now c.args.places.now) c.args.responses.now)) (length c.args.walls.now) (length c.args.internal.now) c.args.internal.now refl)
+    (start (internal_at (grid c.args.adjacency.now c.args.geometry.now c.args.places.now) c.args.responses.now) (predicted_at (grid c.args.adjacency.now c.args.geometry.now c.args.places.now) (flow c.args.velocity.now c.args.pressure.now c.args.gradient.now c.args.responses.now) c.args.walls.now) (length c.args.walls.now) c.args.out.now c.requires.out_len, empty (internal_at (grid c.args.adjacency.now c.args.geometry.now c.args.places.now) c.args.responses.now) (length c.args.walls.now) (length c.args.internal.now) c.args.internal.now refl)
 
 pub stage_at-s-requires : goal.stage_at-s-requires
 stage_at-s-requires c =
@@ -34,7 +31,7 @@ shape_of-out-then-is_early c =
 
 pub returns-then-is_early : goal.returns-then-is_early
 returns-then-is_early c =
-    let no = stop ((internal_at (grid c.args.adjacency.now c.args.geometry.now c.args.places.now) c.args.responses.now)) ((predicted_at (grid c.args.adjacency.now c.args.geometry.now c.args.places.now) (flow c.args.velocity.now c.args.pressure.now c.args.gradient.now c.args.responses.now) c.args.walls.now)) (length c.args.walls.now) c.loop-f.out c.loop-f.a c.loop-f.f c.stage_at-s.result c.stage_at-s.ensures.answer (sym c.is_early.ensures ∙ c.if-is_early.true) c.loop-f.invariant.0 c.loop-f-test.true in
+    let no = stop (internal_at (grid c.args.adjacency.now c.args.geometry.now c.args.places.now) c.args.responses.now) (predicted_at (grid c.args.adjacency.now c.args.geometry.now c.args.places.now) (flow c.args.velocity.now c.args.pressure.now c.args.gradient.now c.args.responses.now) c.args.walls.now) (length c.args.walls.now) c.loop-f.out c.loop-f.a c.loop-f.f c.stage_at-s.result c.stage_at-s.ensures.answer (sym c.is_early.ensures ∙ c.if-is_early.true) c.loop-f.invariant.0 c.loop-f-test.true in
     record {
       passes = (rw c.early_number.ensures (sym no), λ e. cc);
       coefficients = λ _ ok. absurd (never_accepted _ _ ok);
@@ -61,11 +58,11 @@ shape_of-out c =
 
 pub returns : goal.returns
 returns c =
-    let w = finish ((internal_at (grid c.args.adjacency.now c.args.geometry.now c.args.places.now) c.args.responses.now)) ((predicted_at (grid c.args.adjacency.now c.args.geometry.now c.args.places.now) (flow c.args.velocity.now c.args.pressure.now c.args.gradient.now c.args.responses.now) c.args.walls.now)) (length c.args.walls.now) c.loop-f.out c.loop-f.a c.loop-f.f c.loop-f.invariant.0 c.loop-f-test.false in
+    let w = finish (internal_at (grid c.args.adjacency.now c.args.geometry.now c.args.places.now) c.args.responses.now) (predicted_at (grid c.args.adjacency.now c.args.geometry.now c.args.places.now) (flow c.args.velocity.now c.args.pressure.now c.args.gradient.now c.args.responses.now) c.args.walls.now) (length c.args.walls.now) c.loop-f.out c.loop-f.a c.loop-f.f c.loop-f.invariant.0 c.loop-f-test.false in
     let e : c.loop-f.f ≡ length c.args.walls.now = le_antisymm c.loop-f.invariant.0.within c.loop-f-test.false in
     record {
       passes = (sym w.0, w.1);
-      coefficients = λ room ok. filled ((internal_at (grid c.args.adjacency.now c.args.geometry.now c.args.places.now) c.args.responses.now)) (length c.args.walls.now) (length c.args.internal.now) c.loop-f.internal c.loop-f.f e c.loop-f.invariant.1 room;
+      coefficients = λ room ok. filled (internal_at (grid c.args.adjacency.now c.args.geometry.now c.args.places.now) c.args.responses.now) (length c.args.walls.now) (length c.args.internal.now) c.loop-f.internal c.loop-f.f e c.loop-f.invariant.1 room;
     }
 
 pub loop-f-preserved : goal.loop-f-preserved
@@ -77,6 +74,6 @@ loop-f-preserved c =
     ] in
     let nay = sym c.is_early.ensures ∙ c.if-is_early.false in (
       rw (late, c.put.ensures)
-          (more ((internal_at (grid c.args.adjacency.now c.args.geometry.now c.args.places.now) c.args.responses.now)) ((predicted_at (grid c.args.adjacency.now c.args.geometry.now c.args.places.now) (flow c.args.velocity.now c.args.pressure.now c.args.gradient.now c.args.responses.now) c.args.walls.now)) (length c.args.walls.now) c.loop-f.out c.loop-f.a c.loop-f.f c.stage_at-s.result c.stage_at-s.ensures.answer nay c.loop-f.invariant.0 c.loop-f-test.true),
-      stored ((internal_at (grid c.args.adjacency.now c.args.geometry.now c.args.places.now) c.args.responses.now)) (length c.args.walls.now) (length c.args.internal.now) ((predicted_at (grid c.args.adjacency.now c.args.geometry.now c.args.places.now) (flow c.args.velocity.now c.args.pressure.now c.args.gradient.now c.args.responses.now) c.args.walls.now)) c.loop-f.internal _ c.loop-f.f c.stage_at-s.result c.stage_at-s.ensures.answer nay c.stage_at-s.ensures.stored c.loop-f.invariant.1 c.loop-f-test.true,
+          (more (internal_at (grid c.args.adjacency.now c.args.geometry.now c.args.places.now) c.args.responses.now) (predicted_at (grid c.args.adjacency.now c.args.geometry.now c.args.places.now) (flow c.args.velocity.now c.args.pressure.now c.args.gradient.now c.args.responses.now) c.args.walls.now) (length c.args.walls.now) c.loop-f.out c.loop-f.a c.loop-f.f c.stage_at-s.result c.stage_at-s.ensures.answer nay c.loop-f.invariant.0 c.loop-f-test.true),
+      stored (internal_at (grid c.args.adjacency.now c.args.geometry.now c.args.places.now) c.args.responses.now) (length c.args.walls.now) (length c.args.internal.now) (predicted_at (grid c.args.adjacency.now c.args.geometry.now c.args.places.now) (flow c.args.velocity.now c.args.pressure.now c.args.gradient.now c.args.responses.now) c.args.walls.now) c.loop-f.internal _ c.loop-f.f c.stage_at-s.result c.stage_at-s.ensures.answer nay c.stage_at-s.ensures.stored c.loop-f.invariant.1 c.loop-f-test.true,
     )

@@ -1,15 +1,9 @@
-use Rattle.passes.specs.Staged.{late_after}
-use Rattle.passes.proofs.Stages.{never_accepted, not_late, Both, start, more, stop, finish, Stores, empty, stored, filled}
+use Rattle.passes.proofs.Stages.{Both, Stores}
 use Rattle.predictor.specs.Prediction.{flow, predicted_at}
 use Rattle.coupling.specs.Grid.{grid}
 use Rattle.predictor.specs.Coefficients.{internal_at}
-use Rattle.mesh.specs.declared.Outcome.{Outcome}
 use lib.ListN.{length}
-use native.Mathlib.Nat.{le_antisymm}
-use native.Mathlib.Omega.{arith}
-use Prim.Native.Nat.{ℕ, ◌-◌}
-use mathlib.Core.Path.{◌≡◌, refl, sym, ◌∙◌}
-use mathlib.Core.Logic.{⊎_elim}
+use Prim.Native.Nat.{◌-◌}
 use Rattle.predictor.proofs.inner.prediction.predict.Given as goal
 
 abbrev pub invariant-loop-f : goal.invariant-loop-f

@@ -1,6 +1,6 @@
 use Rattle.passes.proofs.Stages.{settled}
 use lib.ListN.{length}
-use mathlib.Core.Path.{◌≡◌, sym, ◌∙◌, ap}
+use mathlib.Core.Path.{sym, ◌∙◌}
 use borrow.Author.Rules.{rules}
 use Rattle.predictor.proofs.inner.prediction.predicted_flux.Goals as goal
 

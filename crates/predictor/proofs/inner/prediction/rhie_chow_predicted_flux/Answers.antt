@@ -1,11 +1,4 @@
-use Rattle.predictor.specs.Prediction.{Flow, flow, prediction_answer, predicted_fluxes}
-use Rattle.coupling.specs.Grid.{Grid, grid}
-use Rattle.mesh.specs.Pass.{handed_out}
-use lib.Ieee.{Float}
-use lib.ListN.{length}
-use Prim.Native.Nat.{ℕ}
-use mathlib.Core.List.{List}
-use mathlib.Core.Path.{◌≡◌, sym, ◌∙◌, ap}
+use mathlib.Core.Path.{◌∙◌}
 use borrow.Author.Rules.{rules}
 use Rattle.predictor.proofs.inner.prediction.rhie_chow_predicted_flux.Goals as goal
 

@@ -1,4 +1,3 @@
-use borrow.Author.Rules.{rules}
 use Rattle.predictor.proofs.inner.prediction.side_at.Goals as goal
 
 pub returns : goal.returns

@@ -2,7 +2,7 @@ use Rattle.passes.specs.Staged.{late_of, staged, stored_at}
 use Rattle.predictor.specs.Prediction.{predicted_at}
 use Rattle.predictor.specs.Coefficients.{internal_at}
 use borrow.Author.Tests.{eq-eqb}
-use mathlib.Core.Path.{◌≡◌, sym, ◌∙◌}
+use mathlib.Core.Path.{sym, ◌∙◌}
 use borrow.Author.Rules.{rules}
 use Rattle.predictor.proofs.inner.prediction.stage_at.Goals as goal
 

@@ -1,0 +1,13 @@
+use mathlib.Core.Path.{refl}
+use Rattle.degree.proofs.Chained.{none_broken, none_long}
+use Rattle.degree.proofs.search.Goals as goal
+
+pub returns-then-heads_within_facing : goal.returns-then-heads_within_facing
+returns-then-heads_within_facing c =
+    let all = c.all_short.ensures c.if-all_short.true in
+    let within = c.heads_within_facing.ensures c.if-heads_within_facing.true in
+    rw (none_broken c.args.facing.now c.args.faces all c.args.heads.now within, none_long c.args.facing.now c.args.faces all c.args.heads.now within) refl
+
+pub returns : goal.returns
+returns c =
+    rw (c.lowest_broken_facing.ensures, c.lowest.ensures) refl

@@ -1,0 +1,11 @@
+use borrow.Author.Tests.{lt-ltb, le-ltb}
+use Rattle.stencil.specs.Stencil.{start_of}
+use Rattle.stencil.proofs.inner.build.start_of.Goals as goal
+
+pub returns-then-old-used : goal.returns-then-old-used
+unfolding start_of
+returns-then-old-used c = rw (lt-ltb _ _ c.if-old-used.true)
+
+pub returns-else-old-used : goal.returns-else-old-used
+unfolding start_of
+returns-else-old-used c = rw (le-ltb _ _ c.if-old-used.false)

@@ -1,1 +1,2 @@
 pub mod Balance
+pub mod Quotable

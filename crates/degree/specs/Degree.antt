@@ -1,5 +1,5 @@
 -- How many faces a cell has, counted twice over: the faces that name it, and the records of its chain of faces. Check 14. Definitions only.
-use Rattle.std.specs.Prelude.{List, Bool, ◌||◌, cond, ℕ, zero, suc, ◌/◌, eqb, ltb, length}
+use Rattle.std.specs.Prelude.{List, Bool, ◌||◌, cond, ℕ, zero, suc, ◌/◌, ◌<◌, ◌≤◌, eqb, ltb, length}
 use Rattle.chain.specs.Pairs.{first_at, second_at}
 use Rattle.chain.specs.Search.{lowest_where}
 use Rattle.chain.specs.Chains.{head_at, cell_count, walk, lowest_broken}
@@ -27,6 +27,10 @@ names adjacency c f =
 
 abbrev pub namings : List ℕ → ℕ → ℕ
 namings adjacency c = count_where (names adjacency c) (length adjacency / 2)
+
+-- no cell is named by more
+abbrev pub FewNamings : ℕ → List ℕ → Type 0
+FewNamings cells adjacency = (c : ℕ) → c < cells → namings adjacency c ≤ most_faces
 
 -- 14: too many faces name the cell
 unfoldable pub crowded : List ℕ → ℕ → Bool

@@ -1,6 +1,6 @@
 //! The cases of the programs `edges` and `oneslice`, with what the checks and the Rust answer: an
 //! accepted call of each entry and one for each refusal that it can give. The tables here are those of
-//! `crates/edges/src/entries` and `crates/oneslice/src`, in the same order and by the same names.
+//! `crates/edges/src` and `crates/oneslice/src`, in the same order and by the same names.
 
 use crate::calls::{Outcome, Place};
 use crate::compare::{expected, patterned};

@@ -1,5 +1,5 @@
 /* What is lent to a function and handed out by it, and the changes that cases make to it. The base is
- * that of crates/edges/src/entries and of crates/oneslice: two unit squares side by side. */
+ * that of crates/edges/src/case.rt and of crates/oneslice: two unit squares side by side. */
 #ifndef CALL_H
 #define CALL_H
 

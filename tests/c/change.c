@@ -1,4 +1,4 @@
-/* The changes to the base, by the names that they have in crates/edges/src/entries and in
+/* The changes to the base, by the names that they have in crates/edges/src/tables.rt and in
  * crates/oneslice/src/cases.rt. */
 #include "call.h"
 

@@ -1,5 +1,5 @@
-/* The base: the numbers that every entry accepts, those of crates/edges/src/entries/table.rt. A
- * predicted flux that is one longer ends as that of crates/oneslice/src/case.rt does. Face 0
+/* The base: the numbers that every entry accepts, those of crates/edges/src/case.rt. A
+ * predicted flux that is one longer ends as that of crates/oneslice/src/change.rt does. Face 0
  * joins cells 0 and 1; faces 1 and 2, to the left and to the right, are linked; faces 3 and 4 are below
  * and above cell 0, faces 5 and 6 below and above cell 1. The mesh's number is no count and no length, so
  * that it cannot be taken for one. */

@@ -1,13 +1,12 @@
 -- The correction in one slice gives what the correction into a second slice gives. Assumes nothing.
+use Rattle.std.specs.Prelude.{Ok, Err}
 use mathlib.Core.Path.{◌≡◌, refl, sym, ap, ◌∙◌}
 use mathlib.Core.List.{List}
 use Prim.Native.Nat.{ℕ}
 use lib.ListN.{length}
 use lib.Ieee.{Float}
-use Rattle.mesh.specs.Answers.{or_else}
+use Rattle.mesh.specs.Answers.{or_else, Answer}
 use Rattle.mesh.specs.Pass.{handed_out, if_refused}
-use Rattle.mesh.specs.declared.Answer.{Answer}
-use Rattle.mesh.specs.declared.Answer.TheVariants.{Accepted, Refused}
 use Rattle.passes.proofs.Stages.{never_accepted}
 use Rattle.corrector.specs.Correction.{correction_answer, corrected_fluxes}
 use Rattle.simple.specs.Corrected.{correcting_by, correction_checks}
@@ -16,8 +15,8 @@ use Rattle.agreement.specs.EitherWay.{Same, EitherWay}
 -- two outputs that hold the same unless the checks refuse
 both : (checks : Answer) (old predicted result out flux : List Float) (r s : Answer) → s ≡ r → out ≡ if_refused checks old result → flux ≡ if_refused checks predicted result → Same checks old predicted r s out flux
 unfolding if_refused
-both Accepted old predicted result out flux r s e o f = record { answer = e; contents = λ _. f ∙ sym o; untouched = λ no. absurd (no refl) }
-both (Refused k i) old predicted result out flux r s e o f = record { answer = e; contents = λ ok. absurd (never_accepted k i ok); untouched = λ _. (o, f) }
+both (Ok u) old predicted result out flux r s e o f = record { answer = e; contents = λ _. f ∙ sym o; untouched = λ no. absurd (no refl) }
+both (Err x) old predicted result out flux r s e o f = record { answer = e; contents = λ ok. absurd (never_accepted x ok); untouched = λ _. (o, f) }
 
 pub either_way : EitherWay
 either_way n adjacency k l old out flux r s same two one =

@@ -1,16 +1,15 @@
 -- The correction into a second slice and the correction in one, lent the same. Definitions only.
+use Rattle.mesh.specs.Answers.{Answer, accepted}
 use Rattle.std.specs.Prelude.{◌≡◌, List, ℕ, length, Float}
 use Rattle.mesh.specs.Mesh.{Conditions}
-use Rattle.mesh.specs.declared.Answer.{Answer}
-use Rattle.mesh.specs.declared.Answer.TheVariants.{Accepted}
 use Rattle.mesh.specs.declared.Counts.{Counts}
 use Rattle.simple.specs.Corrected.{Fields, correction_checks, CorrectionCall}
 
 -- r, `old` and `out` are of the call with a second slice, s, `predicted` and `flux` of the call with one: the same answer and the same fluxes, save that where a check refuses each slice is as it was
 pub record Same (checks : Answer) (old predicted : List Float) (r s : Answer) (out flux : List Float) : Type 0 where
   pub answer : s ≡ r
-  pub contents : checks ≡ Accepted → flux ≡ out
-  pub untouched : (checks ≡ Accepted → ⊥) → (out ≡ old) × (flux ≡ predicted)
+  pub contents : checks ≡ accepted → flux ≡ out
+  pub untouched : (checks ≡ accepted → ⊥) → (out ≡ old) × (flux ≡ predicted)
 
 -- both calls on the same mesh, conditions and fields, the second slice as long as the predicted flux
 abbrev pub EitherWay : Type 0

@@ -1,4 +1,5 @@
--- The sum of two values that fit, as whole numbers of units: it is within one part in 2 ^ prec of the exact sum, and no farther from it than either operand is in size. Assumes nothing.
+-- The sum of two values that fit, as whole numbers of units: it is within one part in 2 ^ prec of the exact sum,
+-- and no farther from it than either operand is in size. Assumes nothing.
 use Rattle.std.proofs.Common.{◌≡◌, ℕ, ◌+◌, ◌-◌, ◌*◌, ◌^◌, ◌<◌, ◌≤◌, Bool, true, false, cond, not, ◌&&◌, T, ltb, ◌⊎◌, sym, refl, ap, ◌∙◌, inl, inr, le_trans, le_of_eq, le_of_lt, mul-le-mul_right, mul_assoc, mul_comm, mul-pos, mul_right_comm, le_of_mul-le-mul_right, arith, ltb→lt, nltb→le}
 use native.Mathlib.Nat.{mul-sub}
 use lib.Ieee.{Float, nan, inf, fin, Format, prec, low, up, down, round, sum, add, fits}
@@ -14,7 +15,8 @@ abbrev pub Law : ℕ → ℕ → ℕ → ℕ → ℕ → ℕ → ℕ → ℕ →
 Law P hr lr hx lx hy ly X Y =
     (gap (hr + lx + ly) (lr + hx + hy) * P ≤ gap (hx + hy) (lx + ly)) × (gap (hr + lx + ly) (lr + hx + hy) ≤ X) × (gap (hr + lx + ly) (lr + hx + hy) ≤ Y)
 
-law_of : (P hr lr hx lx hy ly X Y d N : ℕ) → gap (hr + lx + ly) (lr + hx + hy) ≡ d → gap (hx + hy) (lx + ly) ≡ N → d * P ≤ N → d ≤ X → d ≤ Y → Law P hr lr hx lx hy ly X Y
+law_of : (P hr lr hx lx hy ly X Y d N : ℕ) → gap (hr + lx + ly) (lr + hx + hy) ≡ d → gap (hx + hy) (lx + ly) ≡ N → d * P ≤ N → d ≤ X → d ≤ Y
+    → Law P hr lr hx lx hy ly X Y
 law_of P hr lr hx lx hy ly X Y d N p q a b c =
     (le_trans (le_of_eq (ap (λ (x : ℕ). x * P) p)) (le_trans a (le_of_eq (sym q))), le_trans (le_of_eq p) b, le_trans (le_of_eq p) c)
 
@@ -45,35 +47,46 @@ none_left : (g N : ℕ) → gap g N ≤ gap 0 N → N ≡ 0 → g ≡ 0
 none_left g N h e = omega arith
 
 -- the exact sum is N, or -N, and r is g, or -g
-forward : (P hr lr hx lx hy ly X Y g N z w : ℕ) → hr + lx + ly ≡ g + z → lr + hx + hy ≡ N + z → hx + hy ≡ N + w → lx + ly ≡ w → gap g N * P ≤ N → gap g N ≤ X → gap g N ≤ Y → Law P hr lr hx lx hy ly X Y
-forward P hr lr hx lx hy ly X Y g N z w p q u v a b c = law_of P hr lr hx lx hy ly X Y (gap g N) N (gap_as (hr + lx + ly) (lr + hx + hy) g N z p q) (gap_is (hx + hy) (lx + ly) N w u v) a b c
+forward : (P hr lr hx lx hy ly X Y g N z w : ℕ) → hr + lx + ly ≡ g + z → lr + hx + hy ≡ N + z → hx + hy ≡ N + w → lx + ly ≡ w → gap g N * P ≤ N
+    → gap g N ≤ X → gap g N ≤ Y → Law P hr lr hx lx hy ly X Y
+forward P hr lr hx lx hy ly X Y g N z w p q u v a b c =
+    law_of P hr lr hx lx hy ly X Y (gap g N) N (gap_as (hr + lx + ly) (lr + hx + hy) g N z p q) (gap_is (hx + hy) (lx + ly) N w u v) a b c
 
-backward : (P hr lr hx lx hy ly X Y g N z w : ℕ) → hr + lx + ly ≡ N + z → lr + hx + hy ≡ g + z → hx + hy ≡ w → lx + ly ≡ N + w → gap g N * P ≤ N → gap g N ≤ X → gap g N ≤ Y → Law P hr lr hx lx hy ly X Y
-backward P hr lr hx lx hy ly X Y g N z w p q u v a b c = law_of P hr lr hx lx hy ly X Y (gap g N) N (gap_swapped (hr + lx + ly) (lr + hx + hy) g N z p q) (gap_is' (hx + hy) (lx + ly) N w u v) a b c
+backward : (P hr lr hx lx hy ly X Y g N z w : ℕ) → hr + lx + ly ≡ N + z → lr + hx + hy ≡ g + z → hx + hy ≡ w → lx + ly ≡ N + w → gap g N * P ≤ N
+    → gap g N ≤ X → gap g N ≤ Y → Law P hr lr hx lx hy ly X Y
+backward P hr lr hx lx hy ly X Y g N z w p q u v a b c =
+    law_of P hr lr hx lx hy ly X Y (gap g N) N (gap_swapped (hr + lx + ly) (lr + hx + hy) g N z p q) (gap_is' (hx + hy) (lx + ly) N w u v) a b c
 
 -- x and y have the sign s
-same_sign : (P g X Y : ℕ) (s : Bool) (hr lr : ℕ) → hr ≡ cond s 0 g → lr ≡ cond s g 0 → gap g (X + Y) * P ≤ X + Y → gap g (X + Y) ≤ gap X (X + Y) → gap g (X + Y) ≤ gap Y (X + Y)
+same_sign : (P g X Y : ℕ) (s : Bool) (hr lr : ℕ) → hr ≡ cond s 0 g → lr ≡ cond s g 0 → gap g (X + Y) * P ≤ X + Y → gap g (X + Y) ≤ gap X (X + Y)
+    → gap g (X + Y) ≤ gap Y (X + Y)
     → Law P hr lr (cond s 0 X) (cond s X 0) (cond s 0 Y) (cond s Y 0) X Y
 same_sign P g X Y false hr lr h l a b c =
-    forward P hr lr X 0 Y 0 X Y g (X + Y) 0 0 (omega arith) (omega arith) (omega arith) (omega arith) a (to_sum (gap g (X + Y)) Y X (X + Y) c (omega arith)) (to_sum (gap g (X + Y)) X Y (X + Y) b refl)
+    forward P hr lr X 0 Y 0 X Y g (X + Y) 0 0 (omega arith) (omega arith) (omega arith) (omega arith) a (to_sum (gap g (X + Y)) Y X (X + Y) c (omega arith))
+    (to_sum (gap g (X + Y)) X Y (X + Y) b refl)
 same_sign P g X Y true hr lr h l a b c =
-    backward P hr lr 0 X 0 Y X Y g (X + Y) 0 0 (omega arith) (omega arith) (omega arith) (omega arith) a (to_sum (gap g (X + Y)) Y X (X + Y) c (omega arith)) (to_sum (gap g (X + Y)) X Y (X + Y) b refl)
+    backward P hr lr 0 X 0 Y X Y g (X + Y) 0 0 (omega arith) (omega arith) (omega arith) (omega arith) a
+    (to_sum (gap g (X + Y)) Y X (X + Y) c (omega arith)) (to_sum (gap g (X + Y)) X Y (X + Y) b refl)
 
 -- y has the sign t and x has not, and y is no smaller
 right_larger : (P g N X Y : ℕ) (t : Bool) (hr lr : ℕ) → hr ≡ cond t 0 g → lr ≡ cond t g 0 → N + X ≡ Y → gap g N * P ≤ N → gap g N ≤ gap Y N → gap g N ≤ gap 0 N
     → Law P hr lr (cond t X 0) (cond t 0 X) (cond t 0 Y) (cond t Y 0) X Y
 right_larger P g N X Y false hr lr h l e a b c =
-    forward P hr lr 0 X Y 0 X Y g N X X (omega arith) (omega arith) (omega arith) (omega arith) a (to_difference (gap g N) X Y N b e) (to_zero (gap g N) X Y N c e)
+    forward P hr lr 0 X Y 0 X Y g N X X (omega arith) (omega arith) (omega arith) (omega arith) a (to_difference (gap g N) X Y N b e)
+    (to_zero (gap g N) X Y N c e)
 right_larger P g N X Y true hr lr h l e a b c =
-    backward P hr lr X 0 0 Y X Y g N X X (omega arith) (omega arith) (omega arith) (omega arith) a (to_difference (gap g N) X Y N b e) (to_zero (gap g N) X Y N c e)
+    backward P hr lr X 0 0 Y X Y g N X X (omega arith) (omega arith) (omega arith) (omega arith) a (to_difference (gap g N) X Y N b e)
+    (to_zero (gap g N) X Y N c e)
 
 -- x has the sign s and y has not, and x is no smaller
 left_larger : (P g N X Y : ℕ) (s : Bool) (hr lr : ℕ) → hr ≡ cond s 0 g → lr ≡ cond s g 0 → N + Y ≡ X → gap g N * P ≤ N → gap g N ≤ gap X N → gap g N ≤ gap 0 N
     → Law P hr lr (cond s 0 X) (cond s X 0) (cond s Y 0) (cond s 0 Y) X Y
 left_larger P g N X Y false hr lr h l e a b c =
-    forward P hr lr X 0 0 Y X Y g N Y Y (omega arith) (omega arith) (omega arith) (omega arith) a (to_zero (gap g N) Y X N c e) (to_difference (gap g N) Y X N b e)
+    forward P hr lr X 0 0 Y X Y g N Y Y (omega arith) (omega arith) (omega arith) (omega arith) a (to_zero (gap g N) Y X N c e)
+    (to_difference (gap g N) Y X N b e)
 left_larger P g N X Y true hr lr h l e a b c =
-    backward P hr lr 0 X Y 0 X Y g N Y Y (omega arith) (omega arith) (omega arith) (omega arith) a (to_zero (gap g N) Y X N c e) (to_difference (gap g N) Y X N b e)
+    backward P hr lr 0 X Y 0 X Y g N Y Y (omega arith) (omega arith) (omega arith) (omega arith) a (to_zero (gap g N) Y X N c e)
+    (to_difference (gap g N) Y X N b e)
 
 signless_hi : (o s : Bool) (g : ℕ) → g ≡ 0 → cond o 0 g ≡ cond s 0 g
 signless_hi true true g e = refl
@@ -116,23 +129,27 @@ module _ (f : Format) (a b c X Y : ℕ) (C : 0 < c) (p : a * 2 ^ low f ≡ X * c
   from : (N W : ℕ) → Short (prec f) W → gap (grid (prec f) N) N ≤ gap W N
   from N W S = nearest_short (prec f) N W (two-le_pos (prec f) (two f)) S
 
-  plus : (s : Bool) → T (finite (round f s (a + b) c)) → Law (2 ^ prec f) (hi f (round f s (a + b) c)) (lo f (round f s (a + b) c)) (cond s 0 X) (cond s X 0) (cond s 0 Y) (cond s Y 0) X Y
+  plus : (s : Bool) → T (finite (round f s (a + b) c))
+      → Law (2 ^ prec f) (hi f (round f s (a + b) c)) (lo f (round f s (a + b) c)) (cond s 0 X) (cond s X 0) (cond s 0 Y) (cond s Y 0) X Y
   plus s t =
       let r = round f s (a + b) c in
       let g = grid (prec f) (X + Y) in
       let v = rounded f s (a + b) c (X + Y) C (add_is a b c X Y (2 ^ low f) p q) t in
       same_sign (2 ^ prec f) g X Y s (hi f r) (lo f r) (hi_of f r s g v) (lo_of f r s g v) (near (X + Y)) (from (X + Y) X SX) (from (X + Y) Y SY)
 
-  right : (t : Bool) → a ≤ b → T (finite (round f t (b - a) c)) → Law (2 ^ prec f) (hi f (round f t (b - a) c)) (lo f (round f t (b - a) c)) (cond t X 0) (cond t 0 X) (cond t 0 Y) (cond t Y 0) X Y
+  right : (t : Bool) → a ≤ b → T (finite (round f t (b - a) c))
+      → Law (2 ^ prec f) (hi f (round f t (b - a) c)) (lo f (round f t (b - a) c)) (cond t X 0) (cond t 0 X) (cond t 0 Y) (cond t Y 0) X Y
   right t h u =
       let r = round f t (b - a) c in
       let N = Y - X in
       let g = grid (prec f) N in
       let v = rounded f t (b - a) c N C (sub_is a b c X Y (2 ^ low f) p q) u in
-      right_larger (2 ^ prec f) g N X Y t (hi f r) (lo f r) (hi_of f r t g v) (lo_of f r t g v) (restored X Y (le_is a b c X Y (2 ^ low f) C p q h)) (near N) (from N Y SY) (from N 0 (short_zero (prec f)))
+      right_larger (2 ^ prec f) g N X Y t (hi f r) (lo f r) (hi_of f r t g v) (lo_of f r t g v) (restored X Y (le_is a b c X Y (2 ^ low f) C p q h))
+      (near N) (from N Y SY) (from N 0 (short_zero (prec f)))
 
   -- the result has the sign s, or it is zero
-  left : (s o : Bool) → b ≤ a → (a ≤ b) ⊎ (o ≡ s) → T (finite (round f o (a - b) c)) → Law (2 ^ prec f) (hi f (round f o (a - b) c)) (lo f (round f o (a - b) c)) (cond s 0 X) (cond s X 0) (cond s Y 0) (cond s 0 Y) X Y
+  left : (s o : Bool) → b ≤ a → (a ≤ b) ⊎ (o ≡ s) → T (finite (round f o (a - b) c))
+      → Law (2 ^ prec f) (hi f (round f o (a - b) c)) (lo f (round f o (a - b) c)) (cond s 0 X) (cond s X 0) (cond s Y 0) (cond s 0 Y) X Y
   left s o h z u =
       let r = round f o (a - b) c in
       let N = X - Y in
@@ -152,20 +169,23 @@ module _ (f : Format) (a b c X Y : ℕ) (C : 0 < c) (p : a * 2 ^ low f ≡ X * c
       go false x k = inr refl
       go true false k = inl (k tt)
 
-  sum_law : (s t : Bool) → T (finite (sum f s a t b c)) → Law (2 ^ prec f) (hi f (sum f s a t b c)) (lo f (sum f s a t b c)) (cond s 0 X) (cond s X 0) (cond t 0 Y) (cond t Y 0) X Y
+  sum_law : (s t : Bool) → T (finite (sum f s a t b c))
+      → Law (2 ^ prec f) (hi f (sum f s a t b c)) (lo f (sum f s a t b c)) (cond s 0 X) (cond s X 0) (cond t 0 Y) (cond t Y 0) X Y
   unfolding sum
   sum_law true true u = plus true u
   sum_law false false u = plus false u
   sum_law true false u = go (ltb a b) (ltb→lt a b) (nltb→le a b) u
     where
       go : (x : Bool) → (T x → a < b) → (T (not x) → b ≤ a) → T (finite (cond x (round f false (b - a) c) (round f (ltb b a) (a - b) c)))
-          → Law (2 ^ prec f) (hi f (cond x (round f false (b - a) c) (round f (ltb b a) (a - b) c))) (lo f (cond x (round f false (b - a) c) (round f (ltb b a) (a - b) c))) 0 X Y 0 X Y
+          → Law (2 ^ prec f) (hi f (cond x (round f false (b - a) c) (round f (ltb b a) (a - b) c)))
+          (lo f (cond x (round f false (b - a) c) (round f (ltb b a) (a - b) c))) 0 X Y 0 X Y
       go true h k u = right false (le_of_lt (h tt)) u
       go false h k u = left true (ltb b a) (k tt) (shown true (k tt)) u
   sum_law false true u = go (ltb a b) (ltb→lt a b) (nltb→le a b) u
     where
       go : (x : Bool) → (T x → a < b) → (T (not x) → b ≤ a) → T (finite (cond x (round f true (b - a) c) (round f false (a - b) c)))
-          → Law (2 ^ prec f) (hi f (cond x (round f true (b - a) c) (round f false (a - b) c))) (lo f (cond x (round f true (b - a) c) (round f false (a - b) c))) X 0 0 Y X Y
+          → Law (2 ^ prec f) (hi f (cond x (round f true (b - a) c) (round f false (a - b) c)))
+          (lo f (cond x (round f true (b - a) c) (round f false (a - b) c))) X 0 0 Y X Y
       go true h k u = right true (le_of_lt (h tt)) u
       go false h k u = left false false (k tt) (inr refl) u
 

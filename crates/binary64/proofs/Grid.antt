@@ -84,7 +84,11 @@ no_nearer n u m h = go (closest n u) (half_off n u h)
     go c d =
         elim (under_or_from m c) [
           | inl l ↦ above (c * u) (m * u) d (stepped m c l)
-          | inr g ↦ elim (under_or_from c m) [ inl l ↦ below (c * u) (m * u) d (stepped c m l) | inr k ↦ subst (λ (x : ℕ). gap (c * u) n ≤ gap (x * u) n) (same c m g k) (le_refl (gap (c * u) n)) ]
+          | inr g ↦ elim (under_or_from c m) [
+            | inl l ↦ below (c * u) (m * u) d (stepped c m l)
+            | inr k ↦ subst (λ (x : ℕ). gap (c * u) n ≤ gap (x * u) n)
+                (same c m g k) (le_refl (gap (c * u) n))
+          ]
         ]
       where
         same : (x y : ℕ) → x ≤ y → y ≤ x → x ≡ y
@@ -117,7 +121,8 @@ relative p n P =
       | inl z ↦ le_trans (mul-le-mul_right (2 ^ p) (exact n (cut p n) z)) (nil n (2 ^ p))
       | inr k ↦
           le_trans (le_of_eq (ap (λ (x : ℕ). gap (grid p n) n * x) (double p P) ∙ sym (mul_assoc (gap (grid p n) n) 2 (2 ^ (p - 1)))))
-          (le_trans (mul-le-mul_right (2 ^ (p - 1)) (half_off n (2 ^ cut p n) (pow_pos (cut p n)))) (le_trans (le_of_eq (mul_comm (2 ^ cut p n) (2 ^ (p - 1)))) (lead p n P k)))
+          (le_trans (mul-le-mul_right (2 ^ (p - 1)) (half_off n (2 ^ cut p n) (pow_pos (cut p n))))
+          (le_trans (le_of_eq (mul_comm (2 ^ cut p n) (2 ^ (p - 1)))) (lead p n P k)))
     ]
   where
     nil : (a b : ℕ) → 0 * b ≤ a

@@ -11,7 +11,8 @@ by_test true x y P f g = f tt
 by_test false x y P f g = g tt
 
 pub abs-sub : (a b : ℕ) → nat_abs (sub_ℕ a b) ≡ gap a b
-abs-sub a b = by_test (ltb a b) (negsuc (b - suc a)) (pos (a - b)) (λ (z : ℤ). nat_abs z ≡ gap a b) (λ t. less a b (ltb→lt a b t)) (λ t. more a b (nltb→le a b t))
+abs-sub a b =
+    by_test (ltb a b) (negsuc (b - suc a)) (pos (a - b)) (λ (z : ℤ). nat_abs z ≡ gap a b) (λ t. less a b (ltb→lt a b t)) (λ t. more a b (nltb→le a b t))
   where
     less : (a b : ℕ) → a < b → suc (b - suc a) ≡ gap a b
     less a b h = omega arith
@@ -84,9 +85,11 @@ sum_is f (x ∷ xs) = ap₂ (λ (a b : ℤ). a +ℤ b) (signed_count_is f x) (su
 pub apart_is : (a b c d : ℕ) → nat_abs (sub_ℕ a b -ℤ sub_ℕ c d) ≡ gap (a + d) (b + c)
 apart_is a b c d = ap nat_abs (ap (λ (z : ℤ). sub_ℕ a b +ℤ z) (sub-neg c d) ∙ sub-add a b d c) ∙ abs-sub (a + d) (b + c)
 
-pub off_is : (f : Format) (r x y : Float) → nat_abs (signed_count f r -ℤ (signed_count f x +ℤ signed_count f y)) ≡ gap (hi f r + lo f x + lo f y) (lo f r + hi f x + hi f y)
+pub off_is : (f : Format) (r x y : Float)
+    → nat_abs (signed_count f r -ℤ (signed_count f x +ℤ signed_count f y)) ≡ gap (hi f r + lo f x + lo f y) (lo f r + hi f x + hi f y)
 off_is f r x y =
-    ap nat_abs (ap₂ (λ (p q : ℤ). p -ℤ q) (signed_count_is f r) (ap₂ (λ (p q : ℤ). p +ℤ q) (signed_count_is f x) (signed_count_is f y) ∙ sub-add (hi f x) (lo f x) (hi f y) (lo f y)))
+    ap nat_abs (ap₂ (λ (p q : ℤ). p -ℤ q) (signed_count_is f r)
+    (ap₂ (λ (p q : ℤ). p +ℤ q) (signed_count_is f x) (signed_count_is f y) ∙ sub-add (hi f x) (lo f x) (hi f y) (lo f y)))
     ∙ apart_is (hi f r) (lo f r) (hi f x + hi f y) (lo f x + lo f y)
     ∙ grouped (hi f r) (lo f r) (hi f x) (lo f x) (hi f y) (lo f y)
   where
@@ -94,7 +97,9 @@ off_is f r x y =
     grouped a b c d e g = omega arith
 
 pub both_is : (f : Format) (x y : Float) → nat_abs (signed_count f x +ℤ signed_count f y) ≡ gap (hi f x + hi f y) (lo f x + lo f y)
-both_is f x y = ap nat_abs (ap₂ (λ (p q : ℤ). p +ℤ q) (signed_count_is f x) (signed_count_is f y) ∙ sub-add (hi f x) (lo f x) (hi f y) (lo f y)) ∙ abs-sub (hi f x + hi f y) (lo f x + lo f y)
+both_is f x y =
+    ap nat_abs (ap₂ (λ (p q : ℤ). p +ℤ q) (signed_count_is f x) (signed_count_is f y) ∙ sub-add (hi f x) (lo f x) (hi f y) (lo f y))
+    ∙ abs-sub (hi f x + hi f y) (lo f x + lo f y)
 
 pub error_is : (f : Format) (r : Float) (xs : List Float) → nat_abs (signed_count f r -ℤ exact_total f xs) ≡ gap (hi f r + los f xs) (lo f r + his f xs)
 error_is f r xs = ap nat_abs (ap₂ (λ (p q : ℤ). p -ℤ q) (signed_count_is f r) (sum_is f xs)) ∙ apart_is (hi f r) (lo f r) (his f xs) (los f xs)

@@ -28,7 +28,8 @@ module _ (f : Format) (x y : Float) (F : T (fits f x)) (G : T (fits f y)) (t : T
   right : error ≤ count f y
   right = le_trans (le_of_eq (off_is f (add f x y) x y)) (add_law f x y F G t).2
 
-near_total : (f : Format) (xs : List Float) → AllFit f xs → T (finite (total f (zero f) xs)) → nat_abs (signed_count f (total f (zero f) xs) -ℤ exact_total f xs) * 2 ^ prec f ≤ (length xs - 1) * total_count f xs
+near_total : (f : Format) (xs : List Float) → AllFit f xs → T (finite (total f (zero f) xs))
+    → nat_abs (signed_count f (total f (zero f) xs) -ℤ exact_total f xs) * 2 ^ prec f ≤ (length xs - 1) * total_count f xs
 near_total f xs A t = le_trans (le_of_eq (ap (λ (d : ℕ). d * 2 ^ prec f) (error_is f (total f (zero f) xs) xs))) (total_law f xs A t)
 
 -- ---- in binary64

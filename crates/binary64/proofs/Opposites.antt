@@ -1,4 +1,5 @@
--- Opposite operands, a zero's sign aside: the sum commutes, a difference changes its sign with its operands' places, and the operations respect `Alike`. Assumes nothing.
+-- Opposite operands, a zero's sign aside: the sum commutes, a difference changes its sign with its operands' places,
+-- and the operations respect `Alike`. Assumes nothing.
 use Rattle.std.proofs.Common.{◌≡◌, ℕ, ◌+◌, ◌-◌, ◌*◌, ◌<◌, ◌≤◌, Bool, true, false, cond, not, ◌&&◌, T, ltb, pos, sym, refl, ap, ◌∙◌, subst, inl, inr, mul_comm, mul-pos, mul-zero, zero-mul, arith, ltb→lt, nltb→le}
 use lib.Ieee.{Float, nan, inf, fin, Format, up, down, unlike, round, neg, sum, add, sub, mul}
 use lib.Ieee.Fits.{down_pos}
@@ -134,7 +135,8 @@ add_right f x y z (inr n) =
     (subst (λ (w : Float). Alike (add f x (fin n.0.0 0 (pos 0))) (add f x w)) (sym n.1.1) (add_none f x n.0.0 n.1.0))
 
 add_left : (f : Format) (x y z : Float) → Alike y z → Alike (add f y x) (add f z x)
-add_left f x y z h = subst (λ (w : Float). Alike w (add f z x)) (add_swap f x y) (subst (λ (w : Float). Alike (add f x y) w) (add_swap f x z) (add_right f x y z h))
+add_left f x y z h =
+    subst (λ (w : Float). Alike w (add f z x)) (add_swap f x y) (subst (λ (w : Float). Alike (add f x y) w) (add_swap f x z) (add_right f x y z h))
 
 pub add-alike : (f : Format) (x y u v : Float) → Alike x u → Alike y v → Alike (add f x y) (add f u v)
 add-alike f x y u v h k = alike_trans (add f x y) (add f x v) (add f u v) (add_right f x y v k) (add_left f v x u h)

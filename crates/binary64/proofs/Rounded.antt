@@ -89,14 +89,16 @@ module _ (f : Format) where
   neg_value (fin t m e) s X v = (ap not v.0, v.1)
 
   -- ---- products
-  pub mul_value : (x y : Float) (s t : Bool) (X Y N : ℕ) → HasValue x s X L → HasValue y t Y L → X * Y ≡ N * L → Small N → HasValue (mul f x y) (unlike s t) (kept N) L
+  pub mul_value : (x y : Float) (s t : Bool) (X Y N : ℕ) → HasValue x s X L → HasValue y t Y L → X * Y ≡ N * L → Small N
+      → HasValue (mul f x y) (unlike s t) (kept N) L
   unfolding mul
   mul_value nan y s t X Y N v w q h = absurd v
   mul_value (inf a) y s t X Y N v w q h = absurd v
   mul_value (fin a m e) nan s t X Y N v w q h = absurd w
   mul_value (fin a m e) (inf b) s t X Y N v w q h = absurd w
   mul_value (fin a m e) (fin b n d) s t X Y N v w q h =
-      subst (λ (o : Bool). HasValue (round f (unlike a b) (m * up e * (n * up d)) (down e * down d)) o (kept N) L) (ap (λ (o : Bool). unlike o b) v.0 ∙ ap (λ (o : Bool). unlike s o) w.0)
+      subst (λ (o : Bool). HasValue (round f (unlike a b) (m * up e * (n * up d)) (down e * down d)) o (kept N) L)
+      (ap (λ (o : Bool). unlike o b) v.0 ∙ ap (λ (o : Bool). unlike s o) w.0)
       (round_value (unlike a b) (m * up e * (n * up d)) (down e * down d) N (mul-pos (down_pos e) (down_pos d))
       (eq_of_mul-eq-mul_right L (pow_pos (low f)) (m * up e * (n * up d) * L) (N * (down e * down d))
       (mul_assoc (m * up e * (n * up d)) L L
@@ -153,14 +155,28 @@ module _ (f : Format) where
         go false = omega arith
 
     right : (s : Bool) → a ≤ b → Sum (round f (not s) (b - a) c) s X (not s) Y
-    right s l = record { sign = not s; size = Y - X; exact = go s (le_is a b c X Y L C p q l); value = round_value (not s) (b - a) c (Y - X) C (sub_is a b c X Y L p q) (fewer Y X turned) }
+    right s l =
+        record {
+          sign = not s;
+          size = Y - X;
+          exact = go s (le_is a b c X Y L C p q l);
+          value = round_value (not s) (b - a) c (Y - X) C
+              (sub_is a b c X Y L p q) (fewer Y X turned);
+        }
       where
         go : (o : Bool) → X ≤ Y → Signed o X (not o) Y (not o) (Y - X)
         go true k = omega (arith, k)
         go false k = omega (arith, k)
 
     left : (s : Bool) → b ≤ a → Sum (round f (s && ltb b a) (a - b) c) s X (not s) Y
-    left s l = record { sign = s && ltb b a; size = X - Y; exact = go s (ltb b a) (nltb→le b a); value = round_value (s && ltb b a) (a - b) c (X - Y) C (sub_is b a c Y X L q p) (fewer X Y h) }
+    left s l =
+        record {
+          sign = s && ltb b a;
+          size = X - Y;
+          exact = go s (ltb b a) (nltb→le b a);
+          value = round_value (s && ltb b a) (a - b) c (X - Y) C
+              (sub_is b a c Y X L q p) (fewer X Y h);
+        }
       where
         under : Y ≤ X
         under = le_is b a c Y X L C q p l

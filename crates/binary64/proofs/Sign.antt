@@ -56,7 +56,8 @@ mul-neg_left f (inf s) (fin t n d) = cond-neg (eqb n 0) (unlike (not s) t) (unli
 mul-neg_left f (fin s m e) nan = refl
 mul-neg_left f (fin s m e) (inf t) = cond-neg (eqb m 0) (unlike (not s) t) (unlike s t) (unlike_left s t)
 mul-neg_left f (fin s m e) (fin t n d) =
-    ap (λ (b : Bool). round f b (m * up e * (n * up d)) (down e * down d)) (unlike_left s t) ∙ round_neg f (unlike s t) (m * up e * (n * up d)) (down e * down d)
+    ap (λ (b : Bool). round f b (m * up e * (n * up d)) (down e * down d)) (unlike_left s t)
+    ∙ round_neg f (unlike s t) (m * up e * (n * up d)) (down e * down d)
 
 pub mul-neg_right : (f : Format) (x y : Float) → mul f x (neg y) ≡ neg (mul f x y)
 unfolding mul neg
@@ -67,7 +68,8 @@ mul-neg_right f (inf s) (fin t n d) = cond-neg (eqb n 0) (unlike s (not t)) (unl
 mul-neg_right f (fin s m e) nan = refl
 mul-neg_right f (fin s m e) (inf t) = cond-neg (eqb m 0) (unlike s (not t)) (unlike s t) (unlike_right s t)
 mul-neg_right f (fin s m e) (fin t n d) =
-    ap (λ (b : Bool). round f b (m * up e * (n * up d)) (down e * down d)) (unlike_right s t) ∙ round_neg f (unlike s t) (m * up e * (n * up d)) (down e * down d)
+    ap (λ (b : Bool). round f b (m * up e * (n * up d)) (down e * down d)) (unlike_right s t)
+    ∙ round_neg f (unlike s t) (m * up e * (n * up d)) (down e * down d)
 
 -- ---- the sum: the same value, or both are zeros
 -- a zero that fits is written in the one way
@@ -91,7 +93,9 @@ pub no_factor : (m u c : ℕ) → 0 < u → 0 < c → m * u * c ≡ 0 → m ≡ 
 no_factor m u c U C z = elim (eq-zero-or-pos m) [ inl k ↦ k | inr k ↦ absurd (lt_irrefl 0 (subst (λ (x : ℕ). 0 < x) z (mul-pos (mul-pos k U) C))) ]
 
 pub round_zero : (f : Format) (s : Bool) (a c : ℕ) → 0 < c → a ≡ 0 → Zero (round f s a c)
-round_zero f s a c C e = from (round f s a c) (round-fits f s a c) (round_exact f s a c 0 0 C (pow_pos (prec f)) (pow_pos (low f + suc (emax f))) (ap (λ (x : ℕ). x * 2 ^ low f) e ∙ zero-mul (2 ^ low f) ∙ sym (zero-mul c)))
+round_zero f s a c C e =
+    from (round f s a c) (round-fits f s a c)
+    (round_exact f s a c 0 0 C (pow_pos (prec f)) (pow_pos (low f + suc (emax f))) (ap (λ (x : ℕ). x * 2 ^ low f) e ∙ zero-mul (2 ^ low f) ∙ sym (zero-mul c)))
   where
     from : (x : Float) → T (fits f x) → HasValue x s a c → Zero x
     from nan t v = absurd v
@@ -111,7 +115,8 @@ sum-neg f true a true b c C = inl (round_neg f true (a + b) c)
 sum-neg f false a false b c C = inl (round_neg f false (a + b) c)
 sum-neg f true a false b c C = go (ltb a b) (ltb b a) (nltb→le a b) (nltb→le b a)
   where
-    go : (x y : Bool) → (T (not x) → b ≤ a) → (T (not y) → a ≤ b) → Alike (cond x (round f true (b - a) c) (round f false (a - b) c)) (neg (cond x (round f false (b - a) c) (round f y (a - b) c)))
+    go : (x y : Bool) → (T (not x) → b ≤ a) → (T (not y) → a ≤ b)
+        → Alike (cond x (round f true (b - a) c) (round f false (a - b) c)) (neg (cond x (round f false (b - a) c) (round f y (a - b) c)))
     go true y h k = inl (round_neg f false (b - a) c)
     go false true h k = inl (round_neg f true (a - b) c)
     go false false h k =
@@ -119,7 +124,8 @@ sum-neg f true a false b c C = go (ltb a b) (ltb b a) (nltb→le a b) (nltb→le
         inr (z, neg-zero (round f false (a - b) c) z)
 sum-neg f false a true b c C = go (ltb a b) (ltb b a) (nltb→le a b) (nltb→le b a)
   where
-    go : (x y : Bool) → (T (not x) → b ≤ a) → (T (not y) → a ≤ b) → Alike (cond x (round f false (b - a) c) (round f y (a - b) c)) (neg (cond x (round f true (b - a) c) (round f false (a - b) c)))
+    go : (x y : Bool) → (T (not x) → b ≤ a) → (T (not y) → a ≤ b)
+        → Alike (cond x (round f false (b - a) c) (round f y (a - b) c)) (neg (cond x (round f true (b - a) c) (round f false (a - b) c)))
     go true y h k = inl (round_neg f true (b - a) c)
     go false true h k = inl (round_neg f false (a - b) c)
     go false false h k =
@@ -146,7 +152,9 @@ sub-neg f x y = add-neg f x (neg y)
 -- ---- what is alike has the same units
 zero-count : (f : Format) (s : Bool) (m : ℕ) (e : ℤ) → m ≡ 0 → count f (fin s m e) ≡ 0
 unfolding count
-zero-count f s m e z = ap (λ (x : ℕ). x * up e * 2 ^ low f / down e) z ∙ ap (λ (x : ℕ). x * 2 ^ low f / down e) (zero-mul (up e)) ∙ ap (λ (x : ℕ). x / down e) (zero-mul (2 ^ low f)) ∙ zero-div (down e)
+zero-count f s m e z =
+    ap (λ (x : ℕ). x * up e * 2 ^ low f / down e) z ∙ ap (λ (x : ℕ). x * 2 ^ low f / down e) (zero-mul (up e))
+    ∙ ap (λ (x : ℕ). x / down e) (zero-mul (2 ^ low f)) ∙ zero-div (down e)
 
 zero-signed_count : (f : Format) (x : Float) → Zero x → signed_count f x ≡ pos 0
 unfolding signed_count

@@ -1,4 +1,5 @@
--- A sum of n terms from the left is within (n - 1) parts in 2 ^ prec of the exact sum, the parts being of the sum of the sizes (Jeannerod and Rump, 2013). Assumes nothing.
+-- A sum of n terms from the left is within (n - 1) parts in 2 ^ prec of the exact sum,
+-- the parts being of the sum of the sizes (Jeannerod and Rump, 2013). Assumes nothing.
 use Rattle.std.proofs.Common.{◌≡◌, ℕ, suc, ◌+◌, ◌-◌, ◌*◌, ◌^◌, ◌<◌, ◌≤◌, true, false, T, List, [], ◌∷◌, length, sym, refl, ap, ◌∙◌, subst, inl, inr, le_trans, le_of_eq, add-zero, le_of_lt, add_assoc, mul-le-mul_right, mul_assoc, mul-le-mul_left, zero-add, zero-mul, le_of_mul-le-mul_right, arith, pow_pos}
 use lib.Ieee.{Float, nan, inf, fin, Format, binary32, binary64, prec, add, fits, of_bits}
 use lib.Ieee.Bits.{of_bits-fits}
@@ -39,7 +40,8 @@ count_parts f (inf s) = refl
 count_parts f (fin true m e) = zero-add (count f (fin true m e))
 count_parts f (fin false m e) = add-zero (count f (fin false m e))
 
--- ---- one step. E is the error so far, d the error of the step, E' the error after it; S is the sum of the sizes so far, X the size of the new term, and |s| ≤ S + E.
+-- ---- one step. E is the error so far, d the error of the step, E' the error after it; S is the sum of the sizes so far, X the size of the new term, and
+-- |s| ≤ S + E.
 small_term : (P m S X E d E' : ℕ) → E * P ≤ m * S → E' ≤ E + d → d ≤ X → X * P ≤ S → E' * P ≤ suc m * (S + X)
 small_term P m S X E d E' h e a b =
     let u : E' * P ≤ (E + d) * P = mul-le-mul_right P e in
@@ -71,12 +73,15 @@ step f m H L s x F G t h =
     elim (under_or_from (H + L) (count f x * 2 ^ prec f)) [
       | inl l ↦
           large_term (2 ^ prec f) m (H + L) (count f x) E d E' (pow_pos (prec f)) h tri
-          (le_trans law.0 (subst (λ (z : ℕ). gap (hi f s + hi f x) (lo f s + lo f x) ≤ H + L + E + z) (count_parts f x) (size_sum (hi f s) (lo f s) (hi f x) (lo f x) H L))) (le_of_lt l)
+          (le_trans law.0
+          (subst (λ (z : ℕ). gap (hi f s + hi f x) (lo f s + lo f x) ≤ H + L + E + z) (count_parts f x) (size_sum (hi f s) (lo f s) (hi f x) (lo f x) H L)))
+          (le_of_lt l)
       | inr g ↦ small_term (2 ^ prec f) m (H + L) (count f x) E d E' h tri law.2 g
     ]
 
 -- ---- from the second term on: m + 1 terms have been summed, with the parts H and L
-from : (f : Format) (m H L : ℕ) (s : Float) (xs : List Float) → T (fits f s) → AllFit f xs → T (finite (total f s xs)) → gap (hi f s + L) (lo f s + H) * 2 ^ prec f ≤ m * (H + L)
+from : (f : Format) (m H L : ℕ) (s : Float) (xs : List Float) → T (fits f s) → AllFit f xs → T (finite (total f s xs))
+    → gap (hi f s + L) (lo f s + H) * 2 ^ prec f ≤ m * (H + L)
     → gap (hi f (total f s xs) + (L + los f xs)) (lo f (total f s xs) + (H + his f xs)) * 2 ^ prec f ≤ (m + length xs) * (H + L + total_count f xs)
 unfolding total his los total_count
 from f m H L s [] F A t h = last f m H L (hi f s) (lo f s) h
@@ -86,8 +91,10 @@ from f m H L s [] F A t h = last f m H L (hi f s) (lo f s) h
 from f m H L s (x ∷ xs) F A t h =
     let u : T (finite (add f s x)) = (total_finite f (add f s x) xs t).0 in
     let k = step f m H L s x F A.0 u h in
-    let i = from f (suc m) (H + hi f x) (L + lo f x) (add f s x) xs (add-fits f s x) A.1 t (le_trans k (le_of_eq (ap (λ (z : ℕ). suc m * z) (parts H L (hi f x) (lo f x) (count f x) (count_parts f x))))) in
-    regroup f (hi f (total f (add f s x) xs)) (lo f (total f (add f s x) xs)) m H L (hi f x) (lo f x) (count f x) (his f xs) (los f xs) (total_count f xs) (length xs) (count_parts f x) i
+    let i = from f (suc m) (H + hi f x) (L + lo f x) (add f s x) xs (add-fits f s x) A.1 t
+    (le_trans k (le_of_eq (ap (λ (z : ℕ). suc m * z) (parts H L (hi f x) (lo f x) (count f x) (count_parts f x))))) in
+    regroup f (hi f (total f (add f s x) xs)) (lo f (total f (add f s x) xs)) m H L (hi f x) (lo f x) (count f x) (his f xs) (los f xs) (total_count f xs)
+    (length xs) (count_parts f x) i
   where
     parts : (H L a b c : ℕ) → a + b ≡ c → H + L + c ≡ H + a + (L + b)
     parts H L a b c e = omega arith
@@ -112,12 +119,14 @@ zero_none binary32 = refl
 zero_none binary64 = refl
 
 -- the first sum is exact
-first : (f : Format) (x : Float) → T (fits f x) → T (finite (add f (zero f) x)) → gap (hi f (add f (zero f) x) + lo f x) (lo f (add f (zero f) x) + hi f x) * 2 ^ prec f ≤ 0 * (hi f x + lo f x)
+first : (f : Format) (x : Float) → T (fits f x) → T (finite (add f (zero f) x))
+    → gap (hi f (add f (zero f) x) + lo f x) (lo f (add f (zero f) x) + hi f x) * 2 ^ prec f ≤ 0 * (hi f x + lo f x)
 first f x F t =
     let r = add f (zero f) x in
     let law = add_law f (zero f) x (of_bits-fits f 0) F t in
     let z = zero_none f in
-    let none : gap (hi f r + lo f x) (lo f r + hi f x) ≡ 0 = same (hi f r) (lo f r) (hi f x) (lo f x) (hi f (zero f)) (lo f (zero f)) (count f (zero f)) (count_parts f (zero f)) z law.1 in
+    let none : gap (hi f r + lo f x) (lo f r + hi f x)
+    ≡ 0 = same (hi f r) (lo f r) (hi f x) (lo f x) (hi f (zero f)) (lo f (zero f)) (count f (zero f)) (count_parts f (zero f)) z law.1 in
     le_of_eq (ap (λ (d : ℕ). d * 2 ^ prec f) none ∙ zero-mul (2 ^ prec f) ∙ sym (zero-mul (hi f x + lo f x)))
   where
     same : (hr lr hx lx a b c : ℕ) → a + b ≡ c → c ≡ 0 → gap (hr + b + lx) (lr + a + hx) ≤ c → gap (hr + lx) (lr + hx) ≡ 0
@@ -126,14 +135,18 @@ first f x F t =
 pub total_law : (f : Format) (xs : List Float) → AllFit f xs → T (finite (total f (zero f) xs))
     → gap (hi f (total f (zero f) xs) + los f xs) (lo f (total f (zero f) xs) + his f xs) * 2 ^ prec f ≤ (length xs - 1) * total_count f xs
 unfolding total his los total_count
-total_law f [] A t = le_of_eq (ap (λ (d : ℕ). d * 2 ^ prec f) (none (hi f (zero f)) (lo f (zero f)) (count f (zero f)) (count_parts f (zero f)) (zero_none f)) ∙ zero-mul (2 ^ prec f))
+total_law f [] A t =
+    le_of_eq (ap (λ (d : ℕ). d * 2 ^ prec f) (none (hi f (zero f)) (lo f (zero f)) (count f (zero f)) (count_parts f (zero f)) (zero_none f))
+    ∙ zero-mul (2 ^ prec f))
   where
     none : (a b c : ℕ) → a + b ≡ c → c ≡ 0 → gap (a + 0) (b + 0) ≡ 0
     none a b c e z = omega arith
 total_law f (x ∷ xs) A t =
     let u : T (finite (add f (zero f) x)) = (total_finite f (add f (zero f) x) xs t).0 in
     let i = from f 0 (hi f x) (lo f x) (add f (zero f) x) xs (add-fits f (zero f) x) A.1 t (first f x A.0 u) in
-    le_trans i (le_of_eq (ap (λ (z : ℕ). z * (hi f x + lo f x + total_count f xs)) (one_less (length xs)) ∙ ap (λ (z : ℕ). (suc (length xs) - 1) * (z + total_count f xs)) (count_parts f x)))
+    le_trans i (le_of_eq
+    (ap (λ (z : ℕ). z * (hi f x + lo f x + total_count f xs)) (one_less (length xs))
+    ∙ ap (λ (z : ℕ). (suc (length xs) - 1) * (z + total_count f xs)) (count_parts f x)))
   where
     one_less : (n : ℕ) → 0 + n ≡ suc n - 1
     one_less n = omega arith

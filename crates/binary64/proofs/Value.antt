@@ -25,11 +25,13 @@ made : (f : Format) (s : Bool) (q k : ℕ) → T (finite (make f s q k)) → Has
 unfolding make
 made f s q k t = go (ltb (q * 2 ^ k) (2 ^ (low f + suc (emax f)))) t
   where
-    go : (b : Bool) → T (finite (cond b (odd (suc (prec f)) s q k (low f)) (inf s))) → HasValue (cond b (odd (suc (prec f)) s q k (low f)) (inf s)) s (q * 2 ^ k) (2 ^ low f)
+    go : (b : Bool) → T (finite (cond b (odd (suc (prec f)) s q k (low f)) (inf s)))
+        → HasValue (cond b (odd (suc (prec f)) s q k (low f)) (inf s)) s (q * 2 ^ k) (2 ^ low f)
     go true u = odd_sign (suc (prec f)) s q k (low f)
     go false u = absurd u
 
-pub rounded : (f : Format) (s : Bool) (a c n : ℕ) → 0 < c → a * 2 ^ low f ≡ n * c → T (finite (round f s a c)) → HasValue (round f s a c) s (grid (prec f) n) (2 ^ low f)
+pub rounded : (f : Format) (s : Bool) (a c n : ℕ) → 0 < c → a * 2 ^ low f ≡ n * c → T (finite (round f s a c))
+    → HasValue (round f s a c) s (grid (prec f) n) (2 ^ low f)
 rounded f s a c n C e t =
     let k = cut (prec f) n in
     let r = round_at f s a c n C e in

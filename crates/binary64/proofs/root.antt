@@ -1,9 +1,9 @@
 -- Laws of whole numbers and of bit patterns that the proofs of the square root use.
-mod Squares
+pub mod Squares
 mod Rounding
 pub mod Patterns
 pub mod Middles
 pub mod Returned
 mod Amounts
 mod Settled
-mod Placed
+pub mod Placed

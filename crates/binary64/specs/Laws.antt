@@ -71,4 +71,6 @@ RootIsNearest = (x : Float) → T (fits binary64 x) → T (is_usable x) → Near
 
 -- the root of a rounded square is the number that was squared, for the numbers from 2 ^ -485 up to 2 ^ 416, given by their bit patterns
 abbrev pub RootsOfSquares : Type 0
-RootsOfSquares = (b : ℕ) → 0x21a0_0000_0000_0000 ≤ b → b < 0x59f0_0000_0000_0000 → root (mul binary64 (from_bits binary64 b) (from_bits binary64 b)) ≡ from_bits binary64 b
+RootsOfSquares =
+    (b : ℕ) → 0x21a0_0000_0000_0000 ≤ b → b < 0x59f0_0000_0000_0000
+    → root (mul binary64 (from_bits binary64 b) (from_bits binary64 b)) ≡ from_bits binary64 b

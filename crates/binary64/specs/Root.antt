@@ -8,7 +8,8 @@ use Rattle.binary64.specs.Numbers.{is_usable}
 use Rattle.binary64.specs.Units.{count}
 
 -- The value of the format f nearest to the square root of w, where w counts squares of f's smallest value, so that the root counts smallest values.
--- Of the root's whole part (`whole_root` of crates/lines) the format keeps the `prec` leading digits q and drops k. The root is between q * 2 ^ k and (q + 1) * 2 ^ k,
+-- Of the root's whole part (`whole_root` of crates/lines) the format keeps the `prec` leading digits q and drops k.
+-- The root is between q * 2 ^ k and (q + 1) * 2 ^ k,
 -- and how it compares with the middle, (2 * q + 1) * 2 ^ k / 2, is how 4 * w compares with the square of (2 * q + 1) * 2 ^ k.
 unfoldable pub nearest_root : Format → ℕ → Float
 unfolding whole_root size units

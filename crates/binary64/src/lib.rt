@@ -6,69 +6,64 @@ ghost use Rattle.std.specs.Prelude.{◌≡◌};
 ghost use Rattle.binary64.specs.Numbers.{is_finite, is_usable, is_far, magnitude, larger};
 ghost use Rattle.binary64.specs.Root.{root};
 
+use root::Significand;
+
 mod root;
 
 // 2^-52.
-pub const EPSILON: f64 = 2.220446049250313e-16;
+pub const EPSILON: f64 = f64::EPSILON;
 
+#[tactic(auto, using(crate::proofs::Bits::finite_is))]
 pub fn finite(x: f64) -> bool
     ensures { result ≡ is_finite x }
 {
-    let top = 1.0 / 0.0;
-    if x < top { -top < x } else { false }
+    x.is_finite()
 }
 
 // Finite and not at most 0.
 pub fn usable(x: f64) -> bool
     ensures { result ≡ is_usable x }
 {
-    if finite(x) { !(x <= 0.0) } else { false }
+    finite(x) && !(x <= 0.0)
 }
 
 // Finite and not at most EPSILON.
 pub fn far(x: f64) -> bool
     ensures { result ≡ is_far x }
 {
-    if finite(x) { !(x <= EPSILON) } else { false }
+    finite(x) && !(x <= EPSILON)
 }
 
 // The sign cleared.
+#[tactic(auto, using(crate::proofs::Bits::magnitude_is))]
 pub fn abs(x: f64) -> f64
     ensures { result ≡ magnitude x }
 {
-    if x < 0.0 {
-        return -x;
-    }
-    if x == 0.0 {
-        return 0.0;
-    }
-    x
+    x.abs()
 }
 
-// The larger; beside a NaN the other; of two that are equal the first.
+// The larger; beside a NaN the other; of two that are equal the first, which the clause of std's `max` leaves open.
+#[tactic(auto, unfolding(crate::specs::Numbers::larger))]
 pub fn max(a: f64, b: f64) -> f64
     ensures { result ≡ larger a b }
 {
-    if a != a {
-        return b;
-    }
-    if a < b { b } else { a }
+    if a.is_nan() || a < b { b } else { a }
 }
 
 // The float nearest to the exact square root.
 pub fn sqrt(x: f64) -> f64
     ensures { result ≡ root x }
 {
-    if x != x {
+    if x.is_nan() {
         return x;
     }
-    let b = f64::to_bits(x);
+    let b = x.to_bits();
     if b >= 0x7ff0_0000_0000_0000 {
         // infinity, -0, or below zero
         if b <= 0x8000_0000_0000_0000 {
             return x;
         }
-        return 0.0 / 0.0;
+        return f64::NAN;
     }
     if b >= 0x10_0000_0000_0000 {
         return root::normal(b);
@@ -77,8 +72,8 @@ pub fn sqrt(x: f64) -> f64
         return x;
     }
     // a subnormal's fraction, brought to full width
-    let z = (u64::leading_zeros(b) as u64) - 11;
-    root::scaled(b << z, 1074 - z)
+    let z = u64::from(b.leading_zeros()) - 11;
+    root::scaled(Significand { digits: b << z }, 1074 - z)
 }
 
 // The same, with a guess: where the guess's square, rounded, is x, the guess is the root. The
@@ -87,8 +82,8 @@ pub fn sqrt_guessed(x: f64, guess: f64) -> f64
     ensures { result ≡ root x }
 {
     if guess * guess == x {
-        let b = f64::to_bits(guess);
-        if (b >= 0x21a0_0000_0000_0000) & (b < 0x59f0_0000_0000_0000) {
+        let b = guess.to_bits();
+        if (0x21a0_0000_0000_0000..0x59f0_0000_0000_0000).contains(&b) {
             return guess;
         }
     }

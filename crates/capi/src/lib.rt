@@ -4,9 +4,8 @@
 
 ghost use Rattle.std.specs.Prelude.{◌≡◌};
 ghost use Rattle.binary64.specs.Root.{root};
-ghost use Rattle.mesh.specs.Answers.{number_of, index_of};
+ghost use Rattle.mesh.specs.Answers.{Answer, answer_number, answer_index};
 ghost use Rattle.mesh.specs.Lent.{mesh_lent, conditions_lent};
-ghost use Rattle.mesh.specs.declared.Answer.{Answer};
 ghost use Rattle.numerics.specs.Slices.{slices, slices_before, slices_after};
 ghost use Rattle.numerics.specs.Gradient.{GradientCall};
 ghost use Rattle.numerics.specs.Outflow.{OutflowCall, Scattered};
@@ -27,21 +26,21 @@ ghost use Rattle.capi.specs.Told.{Told};
 
 use mesh::{Answer, Counts};
 
-fn number_of(a: Answer) -> u64
-    ensures { result ≡ number_of a }
+// Returns the number of an answer, 0 where it accepts, and leaves its index.
+#[tactic(auto, unfolding(mesh::specs::Answers::answer_number, mesh::specs::Answers::answer_index))]
+fn told(a: Answer, index: &mut usize) -> u64
+    ensures number { result ≡ answer_number a }
+    ensures index { index.new ≡ answer_index a }
 {
     match a {
-        Answer::Accepted => 0,
-        Answer::Refused(k, _) => k,
-    }
-}
-
-fn index_of(a: Answer) -> usize
-    ensures { result ≡ index_of a }
-{
-    match a {
-        Answer::Accepted => 0,
-        Answer::Refused(_, i) => i,
+        Ok(()) => {
+            *index = 0;
+            0
+        }
+        Err(refusal) => {
+            *index = refusal.index;
+            refusal.reason.into()
+        }
     }
 }
 
@@ -87,12 +86,13 @@ pub extern "C" fn juvandeer_least_squares_stencil(
         let new = slices_after starts equations weights inverses in
         Told (λ (a : Answer). StencilCall m k records old a new) result index.new }
 {
-    let a = stencil::least_squares_stencil(
-        counts, adjacency, geometry, heads, places, facing, bordering, number, codes, values,
-        records, starts, equations, weights, inverses,
-    );
-    *index = index_of(a);
-    number_of(a)
+    told(
+        stencil::least_squares_stencil(
+            counts, adjacency, geometry, heads, places, facing, bordering, number, codes, values,
+            records, starts, equations, weights, inverses,
+        ),
+        index,
+    )
 }
 
 // `numerics::least_squares_gradient`.
@@ -114,11 +114,12 @@ pub extern "C" fn juvandeer_least_squares_gradient(
         let f = field.now in
         Told (λ (a : Answer). GradientCall counts stencil records s number f out.old a out.new) result index.new }
 {
-    let a = numerics::least_squares_gradient(
-        counts, stencil, records, starts, equations, weights, inverses, number, field, out,
-    );
-    *index = index_of(a);
-    number_of(a)
+    told(
+        numerics::least_squares_gradient(
+            counts, stencil, records, starts, equations, weights, inverses, number, field, out,
+        ),
+        index,
+    )
 }
 
 // `numerics::integrated_divergence`.
@@ -137,9 +138,10 @@ pub extern "C" fn juvandeer_integrated_divergence(
         let terms : Answer → Type 0 = λ a. Scattered a counts.cells f v out.new in
         Told (λ (a : Answer). call a × terms a) result index.new }
 {
-    let a = numerics::integrated_divergence(counts, adjacency, number, flux, out);
-    *index = index_of(a);
-    number_of(a)
+    told(
+        numerics::integrated_divergence(counts, adjacency, number, flux, out),
+        index,
+    )
 }
 
 // `simple::momentum_inverse_diagonal`.
@@ -152,9 +154,10 @@ pub extern "C" fn juvandeer_momentum_inverse_diagonal(
 ) -> u64
     ensures told { Told (λ (a : Answer). DiagonalCall counts diagonal.now out.old a out.new) result index.new }
 {
-    let a = simple::momentum_inverse_diagonal(counts, diagonal, out);
-    *index = index_of(a);
-    number_of(a)
+    told(
+        simple::momentum_inverse_diagonal(counts, diagonal, out),
+        index,
+    )
 }
 
 // `simple::pressure_face_coefficients`.
@@ -173,11 +176,12 @@ pub extern "C" fn juvandeer_pressure_face_coefficients(
         let w = field_lent response responses in
         Told (λ (a : Answer). CoefficientCall counts m w out.old a out.new) result index.new }
 {
-    let a = simple::pressure_face_coefficients(
-        counts, adjacency, geometry, places, response, responses, out,
-    );
-    *index = index_of(a);
-    number_of(a)
+    told(
+        simple::pressure_face_coefficients(
+            counts, adjacency, geometry, places, response, responses, out,
+        ),
+        index,
+    )
 }
 
 // `simple::pressure_face_coefficients_with_boundary`.
@@ -200,11 +204,12 @@ pub extern "C" fn juvandeer_pressure_face_coefficients_with_boundary(
         let w = field_lent response responses in
         Told (λ (a : Answer). BoundaryCall counts m k w out.old a out.new) result index.new }
 {
-    let a = simple::pressure_face_coefficients_with_boundary(
-        counts, adjacency, geometry, places, number, codes, values, response, responses, out,
-    );
-    *index = index_of(a);
-    number_of(a)
+    told(
+        simple::pressure_face_coefficients_with_boundary(
+            counts, adjacency, geometry, places, number, codes, values, response, responses, out,
+        ),
+        index,
+    )
 }
 
 // `simple::rhie_chow_predicted_flux`.
@@ -239,13 +244,14 @@ pub extern "C" fn juvandeer_rhie_chow_predicted_flux(
         let after = gradient.new in
         Told (λ (a : Answer). PredictionCall counts m stencil records s l before out.old a after out.new) result index.new }
 {
-    let a = simple::rhie_chow_predicted_flux(
-        counts, adjacency, geometry, places, stencil, records, starts, equations, weights,
-        inverses, velocity, velocities, pressure, pressures, response, responses, wall, walls,
-        gradient, out,
-    );
-    *index = index_of(a);
-    number_of(a)
+    told(
+        simple::rhie_chow_predicted_flux(
+            counts, adjacency, geometry, places, stencil, records, starts, equations, weights,
+            inverses, velocity, velocities, pressure, pressures, response, responses, wall, walls,
+            gradient, out,
+        ),
+        index,
+    )
 }
 
 // `simple::correct_face_flux_with_boundary`.
@@ -272,22 +278,23 @@ pub extern "C" fn juvandeer_correct_face_flux_with_boundary(
         let promise : Answer → Type 0 = λ a. Promised a f k l out.new in
         Told (λ (a : Answer). call a × promise a) result index.new }
 {
-    let a = simple::correct_face_flux_with_boundary(
-        counts,
-        adjacency,
-        number,
-        codes,
-        values,
-        prediction,
-        predicted,
-        coefficient,
-        coefficients,
-        correction,
-        corrections,
-        out,
-    );
-    *index = index_of(a);
-    number_of(a)
+    told(
+        simple::correct_face_flux_with_boundary(
+            counts,
+            adjacency,
+            number,
+            codes,
+            values,
+            prediction,
+            predicted,
+            coefficient,
+            coefficients,
+            correction,
+            corrections,
+            out,
+        ),
+        index,
+    )
 }
 
 // `simple::correct_face_flux_in_place`.
@@ -312,21 +319,22 @@ pub extern "C" fn juvandeer_correct_face_flux_in_place(
         let promise : Answer → Type 0 = λ a. Promised a adjacency.now k l flux.new in
         Told (λ (a : Answer). call a × promise a) result index.new }
 {
-    let a = simple::correct_face_flux_in_place(
-        counts,
-        adjacency,
-        number,
-        codes,
-        values,
-        coefficient,
-        coefficients,
-        correction,
-        corrections,
-        prediction,
-        flux,
-    );
-    *index = index_of(a);
-    number_of(a)
+    told(
+        simple::correct_face_flux_in_place(
+            counts,
+            adjacency,
+            number,
+            codes,
+            values,
+            coefficient,
+            coefficients,
+            correction,
+            corrections,
+            prediction,
+            flux,
+        ),
+        index,
+    )
 }
 
 // `simple::correct_cell_velocity_from_gradient`.
@@ -347,11 +355,12 @@ pub extern "C" fn juvandeer_correct_cell_velocity_from_gradient(
         let g = field_lent gradient gradients in
         Told (λ (a : Answer). VelocityCall counts v w g out.old a out.new) result index.new }
 {
-    let a = simple::correct_cell_velocity_from_gradient(
-        counts, velocity, velocities, response, responses, gradient, gradients, out,
-    );
-    *index = index_of(a);
-    number_of(a)
+    told(
+        simple::correct_cell_velocity_from_gradient(
+            counts, velocity, velocities, response, responses, gradient, gradients, out,
+        ),
+        index,
+    )
 }
 
 // `simple::continuity_metrics`.
@@ -373,9 +382,10 @@ pub extern "C" fn juvandeer_continuity_metrics(
         let call : Answer → Type 0 = λ a. MetricsCall counts f p v sums metrics.old a outflow.new metrics.new in
         Told (λ (a : Answer). call a) result index.new }
 {
-    let a = simple::continuity_metrics(counts, adjacency, places, number, flux, outflow, metrics);
-    *index = index_of(a);
-    number_of(a)
+    told(
+        simple::continuity_metrics(counts, adjacency, places, number, flux, outflow, metrics),
+        index,
+    )
 }
 
 // `step::step`.
@@ -422,39 +432,40 @@ pub extern "C" fn juvandeer_step(
         let demanded : Answer → Type 0 = λ a. Demanded a d flux.new outflow.new in
         Told (λ (a : Answer). StepCall d old a new × demanded a) result index.new }
 {
-    let a = step::step(
-        counts,
-        adjacency,
-        geometry,
-        heads,
-        places,
-        facing,
-        bordering,
-        number,
-        codes,
-        values,
-        records,
-        velocity,
-        velocities,
-        pressure,
-        pressures,
-        response,
-        responses,
-        wall,
-        walls,
-        correction,
-        corrections,
-        starts,
-        equations,
-        weights,
-        inverses,
-        gradient,
-        predicted,
-        coefficients,
-        flux,
-        outflow,
-        metrics,
-    );
-    *index = index_of(a);
-    number_of(a)
+    told(
+        step::step(
+            counts,
+            adjacency,
+            geometry,
+            heads,
+            places,
+            facing,
+            bordering,
+            number,
+            codes,
+            values,
+            records,
+            velocity,
+            velocities,
+            pressure,
+            pressures,
+            response,
+            responses,
+            wall,
+            walls,
+            correction,
+            corrections,
+            starts,
+            equations,
+            weights,
+            inverses,
+            gradient,
+            predicted,
+            coefficients,
+            flux,
+            outflow,
+            metrics,
+        ),
+        index,
+    )
 }

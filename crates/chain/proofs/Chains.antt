@@ -1,4 +1,5 @@
 -- How a walk of a chain goes on by one record: in the search for a broken one, and along a sound one. Assumes nothing.
+use Rattle.std.specs.Prelude.{None, Some}
 use mathlib.Core.Path.{◌≡◌, refl, sym, ◌∙◌, ap, subst}
 use mathlib.Core.Logic.{◌⊎◌, inl, inr, ⊎_elim}
 use mathlib.Core.List.{List, [], ◌∷◌}
@@ -11,9 +12,7 @@ use lib.ListN.{length}
 use borrow.Author.Tests.{ltb-true, leb-true, eqb-true, eq-eqb, ne_eqb, le-leb}
 use Rattle.chain.specs.Pairs.{first_at, second_at}
 use Rattle.chain.specs.Chains.{item_of, next_of, step_of, walk, trail, ends, Chain, leads_on, head_at, cell_count, broken_cell, lowest_broken}
-use Rattle.chain.specs.declared.Found.TheVariants.{Nothing}
-use Rattle.chain.specs.declared.walk.Form.{Form}
-use Rattle.chain.specs.declared.walk.Step.TheVariants.{Broken, Next}
+use Rattle.chain.specs.declared.Form.{Form}
 use Rattle.chain.proofs.Search.{none_found}
 use Rattle.chain.proofs.Truth.{and_true}
 
@@ -33,22 +32,22 @@ module _ (l : List ℕ) (records limit : ℕ) where
   opened left q a b c = rw (eqb-suc-zero, a, b, c)
 
   -- a step that breaks ends no chain, and one that goes on leaves the end to the next record
-  broken_step : (a b h : Bool) (n : ℕ) → cond (a && b) (Next n) Broken ≡ Broken → (a && (b && h)) ≡ false
+  broken_step : (a b h : Bool) (n : ℕ) → cond (a && b) (Some n) None ≡ None → (a && (b && h)) ≡ false
   broken_step true true h n e = cc
   broken_step true false h n e = refl
   broken_step false b h n e = refl
 
-  next_step : (a b h : Bool) (n q : ℕ) → cond (a && b) (Next n) Broken ≡ Next q → ((a && (b && h)) ≡ h) × (n ≡ q)
+  next_step : (a b h : Bool) (n q : ℕ) → cond (a && b) (Some n) None ≡ Some q → ((a && (b && h)) ≡ h) × (n ≡ q)
   next_step true true h n q e = (refl, cc)
   next_step true false h n q e = (cc, cc)
   next_step false b h n q e = (cc, cc)
 
-  pub breaks : (left r : ℕ) → (r ≡ 0 → ⊥) → step_of l records limit r ≡ Broken → ends l records limit left r ≡ false
+  pub breaks : (left r : ℕ) → (r ≡ 0 → ⊥) → step_of l records limit r ≡ None → ends l records limit left r ≡ false
   unfolding ends step_of
   breaks zero r z e = rw (ne_eqb _ _ z)
   breaks (suc left) r z e = rw (ne_eqb _ _ z) (broken_step (leb r records) (ltb (item_of l r) limit) (ends l records limit left (next_of l r)) (next_of l r) e)
 
-  pub goes_on : (left r q : ℕ) → (left ≡ 0 → ⊥) → (r ≡ 0 → ⊥) → step_of l records limit r ≡ Next q → ends l records limit (left - 1) q ≡ ends l records limit left r
+  pub goes_on : (left r q : ℕ) → (left ≡ 0 → ⊥) → (r ≡ 0 → ⊥) → step_of l records limit r ≡ Some q → ends l records limit (left - 1) q ≡ ends l records limit left r
   unfolding ends step_of
   goes_on zero r q n z e = absurd (n refl)
   goes_on (suc left) r q n z e =
@@ -97,7 +96,7 @@ module _ (l : List ℕ) (limit : ℕ) (lead : (i : ℕ) → i < length l / 2 →
   ends_in_order zero r h d = ⊎_elim (λ e. ended l (length l / 2) limit zero r e) (λ k. absurd (omega (arith, h, k))) d
   ends_in_order (suc left) r h d = one_on left (ends_in_order left) r h d
 
-  pub none_broken : (form : Form) (heads : List ℕ) → ((cell : ℕ) → cell < cell_count form heads → head_at form heads cell ≤ length l / 2) → lowest_broken limit l form heads ≡ Nothing
+  pub none_broken : (form : Form) (heads : List ℕ) → ((cell : ℕ) → cell < cell_count form heads → head_at form heads cell ≤ length l / 2) → lowest_broken limit l form heads ≡ None
   unfolding broken_cell
   none_broken form heads within =
       none_found (broken_cell limit l form heads) (cell_count form heads) (λ cell h. ap not (ends_in_order (length l / 2) (head_at form heads cell) (within cell h) (first (head_at form heads cell))))

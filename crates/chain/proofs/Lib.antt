@@ -2,3 +2,4 @@
 pub mod Truth
 pub mod Search
 pub mod Chains
+pub mod Onward

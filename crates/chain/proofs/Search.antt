@@ -1,4 +1,5 @@
 -- How a search goes on by one index, and what its end says. Assumes nothing.
+use Rattle.std.specs.Prelude.{Option, None, Some}
 use mathlib.Core.Path.{◌≡◌, refl, sym, subst}
 use mathlib.Core.Logic.{⊎_elim}
 use mathlib.Core.Bool.{Bool, true, false, cond}
@@ -9,13 +10,11 @@ use native.Mathlib.Nat.{eq-or-lt_of_le, le_of_suc-le-suc, le_antisymm}
 use native.Mathlib.Numerals.{add-one}
 use native.Mathlib.Decide.{le_ind}
 use Rattle.chain.specs.Search.{or_at, lowest_where, Lowest, lower}
-use Rattle.chain.specs.declared.Found.{Found}
-use Rattle.chain.specs.declared.Found.TheVariants.{Nothing, At}
 
 -- no index below i, of n, has been found
 pub record Searched (g : ℕ → Bool) (n i : ℕ) : Type 0 where
   pub within : i ≤ n
-  pub none : lowest_where g i ≡ Nothing
+  pub none : lowest_where g i ≡ None
 
 module _ (g : ℕ → Bool) (n : ℕ) where
   pub start : Searched g n 0
@@ -26,21 +25,21 @@ module _ (g : ℕ → Bool) (n : ℕ) where
   unfolding lowest_where or_at
   more i s h e = record { within = omega arith; none = rw (add-one, s.none, e) }
 
-  pub found : (i : ℕ) → Searched g n i → i < n → g i ≡ true → lowest_where g n ≡ At i
+  pub found : (i : ℕ) → Searched g n i → i < n → g i ≡ true → lowest_where g n ≡ Some i
   unfolding lowest_where or_at
-  found i s h e = le_ind (λ m. lowest_where g m ≡ At i) (rw (s.none, e)) (λ m k q. rw q) n h
+  found i s h e = le_ind (λ m. lowest_where g m ≡ Some i) (rw (s.none, e)) (λ m k q. rw q) n h
 
-  pub nothing : (i : ℕ) → Searched g n i → n ≤ i → lowest_where g n ≡ Nothing
+  pub nothing : (i : ℕ) → Searched g n i → n ≤ i → lowest_where g n ≡ None
   nothing i s h = let e : i ≡ n = le_antisymm s.within h in rw (← e) s.none
 
-none_was : (f : Found) (t : Bool) (n : ℕ) → or_at f t n ≡ Nothing → (f ≡ Nothing) × (t ≡ false)
+none_was : (f : Option ℕ) (t : Bool) (n : ℕ) → or_at f t n ≡ None → (f ≡ None) × (t ≡ false)
 unfolding or_at
-none_was (At k) t n h = (cc, cc)
-none_was Nothing true n h = (refl, cc)
-none_was Nothing false n h = (refl, refl)
+none_was (Some k) t n h = (cc, cc)
+none_was None true n h = (refl, cc)
+none_was None false n h = (refl, refl)
 
 -- where nothing was found, the test fails at each index
-pub none_below : (g : ℕ → Bool) (n k : ℕ) → lowest_where g n ≡ Nothing → k < n → g k ≡ false
+pub none_below : (g : ℕ → Bool) (n k : ℕ) → lowest_where g n ≡ None → k < n → g k ≡ false
 unfolding lowest_where
 none_below g zero k h l = absurd (omega arith)
 none_below g (suc n) k h l =
@@ -48,31 +47,31 @@ none_below g (suc n) k h l =
     ⊎_elim (λ e. rw e w.1) (λ lt. none_below g n k w.0 lt) (eq-or-lt_of_le (le_of_suc-le-suc l))
 
 -- of two searches neither found anything where the lower of them is nothing
-pub none_lower : (a b : Found) → lower a b ≡ Nothing → (a ≡ Nothing) × (b ≡ Nothing)
+pub none_lower : (a b : Option ℕ) → lower a b ≡ None → (a ≡ None) × (b ≡ None)
 unfolding lower
-none_lower Nothing b h = (refl, h)
-none_lower (At i) Nothing h = (h, refl)
-none_lower (At i) (At j) h = absurd (go (ltb j i) h)
+none_lower None b h = (refl, h)
+none_lower (Some i) None h = (h, refl)
+none_lower (Some i) (Some j) h = absurd (go (ltb j i) h)
   where
-    go : (t : Bool) → cond t (At j) (At i) ≡ Nothing → ⊥
+    go : (t : Bool) → cond t (Some j) (Some i) ≡ None → ⊥
     go true e = let z : ◌≡◌ {A = ℕ} 0 1 = cc in omega arith
     go false e = let z : ◌≡◌ {A = ℕ} 0 1 = cc in omega arith
 
 -- what a search finds is the lowest index at which the test holds
-pub lowest_found : (g : ℕ → Bool) (n i : ℕ) → lowest_where g n ≡ At i → Lowest g n i
+pub lowest_found : (g : ℕ → Bool) (n i : ℕ) → lowest_where g n ≡ Some i → Lowest g n i
 unfolding lowest_where or_at
 lowest_found g zero i h = let z : ◌≡◌ {A = ℕ} 0 1 = cc in absurd (omega arith)
 lowest_found g (suc n) i h = go (lowest_found g n i) (lowest_where g n) (g n) refl refl h
   where
-    go : (lowest_where g n ≡ At i → Lowest g n i) → (f : Found) (t : Bool) → lowest_where g n ≡ f → g n ≡ t → or_at f t n ≡ At i → Lowest g (suc n) i
-    go r (At k) t p q e =
+    go : (lowest_where g n ≡ Some i → Lowest g n i) → (f : Option ℕ) (t : Bool) → lowest_where g n ≡ f → g n ≡ t → or_at f t n ≡ Some i → Lowest g (suc n) i
+    go r (Some k) t p q e =
         let same : k ≡ i = cc in
         let w = r (rw (← same) p) in
         record { within = omega (arith, w.within); holds = w.holds; none = w.none }
-    go r Nothing true p q e =
+    go r None true p q e =
         let same : n ≡ i = cc in
         record { within = omega arith; holds = rw (← same) q; none = rw (← same) (λ j l. none_below g n j p l) }
-    go r Nothing false p q e = let z : ◌≡◌ {A = ℕ} 0 1 = cc in absurd (omega arith)
+    go r None false p q e = let z : ◌≡◌ {A = ℕ} 0 1 = cc in absurd (omega arith)
 
 -- what holds at every index below i, at the start and one index on
 pub below_none : (P : ℕ → Type 0) (j : ℕ) → j < 0 → P j
@@ -85,7 +84,12 @@ below_more P i h p j l = ⊎_elim (λ e. subst P (sym e) p) (λ lt. h j lt) (eq-
     at_most a b q = omega (arith, q)
 
 -- where the test fails at each index, nothing is found
-pub none_found : (g : ℕ → Bool) (n : ℕ) → ((i : ℕ) → i < n → g i ≡ false) → lowest_where g n ≡ Nothing
+pub none_found : (g : ℕ → Bool) (n : ℕ) → ((i : ℕ) → i < n → g i ≡ false) → lowest_where g n ≡ None
 unfolding lowest_where or_at
 none_found g zero h = refl
 none_found g (suc n) h = rw (none_found g n (λ i l. h i (omega (arith, l))), h n (omega arith))
+
+-- where the test holds at an index and at no lower one, that index is found
+pub found_at : (g : ℕ → Bool) (n i : ℕ) → i < n → g i ≡ true → ((j : ℕ) → j < i → g j ≡ false) → lowest_where g n ≡ Some i
+unfolding lowest_where or_at
+found_at g n i l e h = le_ind (λ m. lowest_where g m ≡ Some i) (rw (none_found g i h, e)) (λ m k q. rw q) n l

@@ -1,12 +1,9 @@
 -- Chains of records of two numbers, an item and the next record. Records count from 1, and 0 ends a chain. Definitions only.
-use Rattle.std.specs.Prelude.{◌≡◌, List, [], ◌∷◌, Bool, true, not, ◌&&◌, ◌||◌, cond, ℕ, zero, suc, ◌+◌, ◌-◌, ◌/◌, ◌≤◌, ◌<◌, eqb, leb, ltb, length, get_or}
+use Rattle.std.specs.Prelude.{◌≡◌, List, [], ◌∷◌, Bool, true, not, ◌&&◌, ◌||◌, cond, ℕ, zero, suc, ◌+◌, ◌-◌, ◌/◌, ◌≤◌, ◌<◌, eqb, leb, ltb, length, get_or, Option, None, Some}
 use Rattle.chain.specs.Pairs.{first_at, second_at}
 use Rattle.chain.specs.Search.{lowest_where}
-use Rattle.chain.specs.declared.Found.{Found}
-use Rattle.chain.specs.declared.walk.Form.{Form}
-use Rattle.chain.specs.declared.walk.Form.TheVariants.{Single, First, Second}
-use Rattle.chain.specs.declared.walk.Step.{Step}
-use Rattle.chain.specs.declared.walk.Step.TheVariants.{Broken, Next}
+use Rattle.chain.specs.declared.Form.{Form}
+use Rattle.chain.specs.declared.Form.TheVariants.{Single, First, Second}
 
 abbrev pub item_of : List ℕ → ℕ → ℕ
 item_of l r = first_at l (r - 1)
@@ -15,8 +12,8 @@ abbrev pub next_of : List ℕ → ℕ → ℕ
 next_of l r = second_at l (r - 1)
 
 -- the step at a record r above 0 of `records` records: broken where the record is missing or its item is not below the limit
-unfoldable pub step_of : List ℕ → ℕ → ℕ → ℕ → Step
-step_of l records limit r = cond (leb r records && ltb (item_of l r) limit) (Next (next_of l r)) Broken
+unfoldable pub step_of : List ℕ → ℕ → ℕ → ℕ → Option ℕ
+step_of l records limit r = cond (leb r records && ltb (item_of l r) limit) (Some (next_of l r)) None
 
 -- whether the chain from the record r on ends within `left` records, each of them among the `records` there are, with an item below the limit
 unfoldable pub ends : List ℕ → ℕ → ℕ → ℕ → ℕ → Bool
@@ -38,7 +35,7 @@ cell_count Second heads = length heads / 2
 unfoldable pub broken_cell : ℕ → List ℕ → Form → List ℕ → ℕ → Bool
 broken_cell limit l form heads cell = not (ends l (length l / 2) limit (length l / 2) (head_at form heads cell))
 
-abbrev pub lowest_broken : ℕ → List ℕ → Form → List ℕ → Found
+abbrev pub lowest_broken : ℕ → List ℕ → Form → List ℕ → Option ℕ
 lowest_broken limit l form heads = lowest_where (broken_cell limit l form heads) (cell_count form heads)
 
 -- ---- records in order: no chain of theirs is broken, and no walk is needed to know

@@ -3,10 +3,9 @@
 ghost use Rattle.std.specs.Prelude.{◌≡◌, ◌+◌, ◌*◌, ◌<◌, length};
 ghost use Rattle.chain.specs.Chains.{HeadsWithin};
 ghost use Rattle.chain.specs.Pairs.{first_at, second_at};
-ghost use Rattle.chain.specs.declared.walk.Form.TheVariants.{First};
+ghost use Rattle.chain.specs.declared.Form.TheVariants.{First};
 
-use crate::walk;
-use crate::walk::Form;
+use crate::{Form, walk};
 
 // The two numbers of record i of two.
 pub fn first_of(s: &[usize], i: usize) -> usize

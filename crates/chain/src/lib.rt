@@ -1,29 +1,31 @@
 // Records of two whole numbers in flat slices, and chains of them: check 5.
 #![tactic(auto)]
 
-ghost use Rattle.std.specs.Prelude.{◌≡◌, get_or};
+ghost use Rattle.std.specs.Prelude.{◌≡◌, ◌<◌, ℕ, Bool, get_or};
 ghost use Rattle.chain.specs.Pairs.{first_at, second_at};
-ghost use Rattle.chain.specs.Search.{lower};
+ghost use Rattle.chain.specs.Search.{lower, lowest_where};
 ghost use Rattle.chain.specs.Chains.{lowest_broken};
-ghost use Rattle.chain.specs.declared.walk.Form.TheVariants.{Single, First, Second};
-
-use walk::Form;
 
 pub mod inner;
+mod records;
 mod walk;
 
-// What a search finds.
+pub use records::Records;
+
+// How the first records of the cells' chains stand in a slice: a number a cell, as the equations of a stencil,
+// or the first or the second of two, as the faces and the neighbours of a mesh.
 #[derive(Clone, Copy)]
-pub enum Found {
-    Nothing,
-    At(usize),
+pub enum Form {
+    Single,
+    First,
+    Second,
 }
 
 // The number at i, 0 where it is missing.
 pub fn number_at(s: &[usize], i: usize) -> usize
     ensures { result ≡ get_or s.now i 0 }
 {
-    if i < s.len() { s[i] } else { 0 }
+    s.get(i).copied().unwrap_or(0)
 }
 
 // The two numbers of record i of two, each 0 where it is missing.
@@ -39,36 +41,33 @@ pub fn second_at(s: &[usize], i: usize) -> usize
     if i < s.len() / 2 { s[2 * i + 1] } else { 0 }
 }
 
+// The lowest index below n at which a test holds.
+pub fn lowest<F: Fn(usize) -> bool>(n: usize, test: F) -> Option<usize>
+    requires callable { (i : ℕ) → i < n → F.pre test i }
+    ensures lowest { (g : ℕ → Bool) → ((i : ℕ) (b : Bool) → i < n → F.post test i b → b ≡ g i) → result ≡ lowest_where g n }
+{
+    for i in 0..n {
+        if test(i) {
+            return Some(i);
+        }
+    }
+    None
+}
+
 // The lower of two places.
-pub fn lower_of(a: Found, b: Found) -> Found
+pub fn lower_of(a: Option<usize>, b: Option<usize>) -> Option<usize>
     ensures { result ≡ lower a b }
 {
-    match a {
-        Found::Nothing => b,
-        Found::At(i) => match b {
-            Found::Nothing => a,
-            Found::At(j) => { if j < i { b } else { a } }
-        },
+    match (a, b) {
+        (Some(i), Some(j)) => Some(if j < i { j } else { i }),
+        (Some(i), None) => Some(i),
+        (None, _) => b,
     }
 }
 
-// Check 5, of the chains of faces: the lowest cell whose chain is broken.
-pub fn lowest_broken_facing(faces: usize, heads: &[usize], facing: &[usize]) -> Found
-    ensures { result ≡ lowest_broken faces facing.now First heads.now }
+// Check 5: the lowest cell whose chain of records, with items below the limit, is broken.
+pub fn lowest_broken(limit: usize, records: &[usize], form: Form, heads: &[usize]) -> Option<usize>
+    ensures { result ≡ lowest_broken limit records.now form heads.now }
 {
-    walk::lowest_broken(faces, facing, Form::First, heads)
-}
-
-// Check 5, of the chains of neighbours.
-pub fn lowest_broken_bordering(cells: usize, heads: &[usize], bordering: &[usize]) -> Found
-    ensures { result ≡ lowest_broken cells bordering.now Second heads.now }
-{
-    walk::lowest_broken(cells, bordering, Form::Second, heads)
-}
-
-// Check 5, of the chains of a stencil's equations, whose sources are below the number of cells + 2.
-pub fn lowest_broken_equation(sources: usize, starts: &[usize], equations: &[usize]) -> Found
-    ensures { result ≡ lowest_broken sources equations.now Single starts.now }
-{
-    walk::lowest_broken(sources, equations, Form::Single, starts)
+    walk::lowest_broken(limit, records, form, heads)
 }

@@ -3,35 +3,19 @@ ghost use Rattle.std.specs.Prelude.{◌≡◌, ◌+◌, ◌*◌, ◌/◌, ◌<�
 ghost use Rattle.chain.specs.Chains.{step_of, head_at, cell_count, lowest_broken, leads_on, AllLeadOn, HeadsWithin};
 
 use crate::inner::{first_of, second_of};
-use crate::{Found, first_at, number_at, second_at};
+use crate::{Form, first_at, number_at, second_at};
 
-// How the first records of the cells' chains stand in a slice: a number a cell, or the first or the
-// second of two.
-#[derive(Clone, Copy)]
-pub enum Form {
-    Single,
-    First,
-    Second,
-}
-
-// What stands behind a record.
-#[derive(Clone, Copy)]
-pub enum Step {
-    Broken,
-    Next(usize),
-}
-
-// The step at record r: broken where the record is missing or its item is not below the limit.
-fn step_at(limit: usize, records: &[usize], r: usize) -> Step
+// The record after r: none where r is missing or its item is not below the limit.
+fn step_at(limit: usize, records: &[usize], r: usize) -> Option<usize>
     requires { 0 < r }
     ensures { result ≡ step_of records.now (length records.now / 2) limit r }
 {
     if r <= records.len() / 2 {
         if first_at(records, r - 1) < limit {
-            return Step::Next(second_at(records, r - 1));
+            return Some(second_at(records, r - 1));
         }
     }
-    Step::Broken
+    None
 }
 
 // The first record of a cell's chain, 0 where the cell is missing.
@@ -95,72 +79,63 @@ fn all_lead_on(limit: usize, records: &[usize]) -> bool
     if count == 0 {
         return true;
     }
-    let mut i = 0;
-    while i + 1 < count {
+    for i in 0..count - 1 {
         if !leads_on(limit, records, i) {
             return false;
         }
-        i += 1;
     }
-    ends_at(limit, records, i)
+    ends_at(limit, records, count - 1)
 }
 
 // Whether no cell's first record is beyond so many records.
 pub(crate) fn heads_within(records: usize, form: Form, heads: &[usize]) -> bool
     ensures { HeadsWithin result records form heads.now }
 {
-    let cells = cell_count(form, heads);
-    let mut cell = 0;
-    while cell < cells {
+    for cell in 0..cell_count(form, heads) {
         if records < head_at(form, heads, cell) {
             return false;
         }
-        cell += 1;
     }
     true
 }
 
 // The lowest cell whose chain is broken. Records that all lead on need no walk.
-pub(crate) fn lowest_broken(limit: usize, records: &[usize], form: Form, heads: &[usize]) -> Found
+pub(crate) fn lowest_broken(
+    limit: usize,
+    records: &[usize],
+    form: Form,
+    heads: &[usize],
+) -> Option<usize>
     ensures { result ≡ lowest_broken limit records.now form heads.now }
 {
     if all_lead_on(limit, records) {
         if heads_within(records.len() / 2, form, heads) {
-            return Found::Nothing;
+            return None;
         }
     }
     lowest_walked(limit, records, form, heads)
 }
 
 // Both walks, over the cells and over a cell's records, stop at the first broken record.
-fn lowest_walked(limit: usize, records: &[usize], form: Form, heads: &[usize]) -> Found
+fn lowest_walked(limit: usize, records: &[usize], form: Form, heads: &[usize]) -> Option<usize>
     ensures { result ≡ lowest_broken limit records.now form heads.now }
 {
-    let cells = cell_count(form, heads);
-    let mut cell = 0;
-    'cells: while cell < cells {
+    let mut broken = None;
+    'cells: for cell in 0..cell_count(form, heads) {
         let mut r = head_at(form, heads, cell);
         let mut left = records.len() / 2;
         while r != 0 {
             if left == 0 {
+                broken = Some(cell);
                 break 'cells;
             }
-            let s = step_at(limit, records, r);
-            match s {
-                Step::Broken => {
-                    break 'cells;
-                }
-                Step::Next(next) => {
-                    r = next;
-                    left -= 1;
-                }
-            }
+            let Some(next) = step_at(limit, records, r) else {
+                broken = Some(cell);
+                break 'cells;
+            };
+            r = next;
+            left -= 1;
         }
-        cell += 1;
     }
-    if cell < cells {
-        Found::At(cell)
-    } else {
-        Found::Nothing
-    }
+    broken
 }

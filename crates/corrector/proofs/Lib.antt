@@ -1,2 +1,2 @@
-pub mod Largest
+pub mod Faces
 pub mod Promised

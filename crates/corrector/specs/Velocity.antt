@@ -1,12 +1,12 @@
 -- The corrected velocity of every cell. Definitions only.
+use Rattle.refusal.specs.declared.Reason.TheVariants.{BadSize, WrongLength, OtherMesh, BadDiagonal}
 use Rattle.std.specs.Prelude.{◌≡◌, List, [], ◌∷◌, Bool, not, ◌&&◌, ℕ, ◌*◌, eqb, length, get_or, Float}
 use Rattle.std.specs.Float.{nan}
-use Rattle.mesh.specs.Answers.{pass, at, first_of, or_else}
+use Rattle.mesh.specs.Answers.{pass, at, first_of, or_else, Answer}
 use Rattle.mesh.specs.Checks.{sizes_ok}
 use Rattle.mesh.specs.Pass.{handed_out, if_refused}
 use Rattle.vector.specs.Vector.{vectors_of, vector_at}
 use Rattle.chain.specs.Search.{every_of, lowest_where}
-use Rattle.mesh.specs.declared.Answer.{Answer}
 use Rattle.mesh.specs.declared.Counts.{Counts}
 use Rattle.vector.specs.declared.Vec3.{Vec3}
 use Rattle.coupling.specs.Cell.{corrected_velocity, stands}
@@ -20,7 +20,7 @@ unfoldable pub fails_at : List Float → List Float → List Float → ℕ → B
 fails_at velocity responses gradient c = not (stands (get_or responses c nan) (corrected_at velocity responses gradient c))
 
 abbrev pub velocity_answer : List Float → List Float → List Float → Answer
-velocity_answer velocity responses gradient = at 11 (lowest_where (fails_at velocity responses gradient) (length responses))
+velocity_answer velocity responses gradient = at BadDiagonal (lowest_where (fails_at velocity responses gradient) (length responses))
 
 abbrev pub corrected_velocities : List Float → List Float → List Float → List Float
 corrected_velocities velocity responses gradient = vectors_of (corrected_at velocity responses gradient) (length responses)
@@ -38,14 +38,17 @@ velocity_sizes n velocity responses gradient outs =
 unfoldable pub velocity_checks : Counts → Field → Field → Field → ℕ → Answer
 velocity_checks n velocity responses gradient outs =
     first_of
-    (pass 1 (sizes_ok n)
-    ∷ pass 2 (every_of (velocity_sizes n velocity responses gradient outs))
-    ∷ pass 3 (eqb velocity.number n.mesh && eqb responses.number n.mesh && eqb gradient.number n.mesh)
+    (pass BadSize (sizes_ok n)
+    ∷ pass WrongLength (every_of (velocity_sizes n velocity responses gradient outs))
+    ∷ pass OtherMesh (eqb velocity.number n.mesh && eqb responses.number n.mesh && eqb gradient.number n.mesh)
     ∷ [])
 
 -- the answer, and what the output holds after the call: untouched where a check refuses, +0.0 where arithmetic does
 pub record VelocityCall (n : Counts) (velocity responses gradient : Field) (old : List Float) (r : Answer) (new : List Float) : Type 0 where
   pub answer :
-      r ≡ or_else (velocity_checks n velocity responses gradient (length old)) (velocity_answer velocity.values responses.values gradient.values)
+      let checks = velocity_checks n velocity responses gradient (length old) in
+      r ≡ or_else checks (velocity_answer velocity.values responses.values gradient.values)
   pub out :
-      new ≡ if_refused (velocity_checks n velocity responses gradient (length old)) old (handed_out r (length old) (corrected_velocities velocity.values responses.values gradient.values))
+      let checks = velocity_checks n velocity responses gradient (length old) in
+      let new_velocity = corrected_velocities velocity.values responses.values gradient.values in
+      new ≡ if_refused checks old (handed_out r (length old) new_velocity)

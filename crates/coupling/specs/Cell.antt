@@ -1,14 +1,14 @@
 -- A cell: the inverse of its momentum diagonal, its corrected velocity, and its divergence, in the Rust's order of operations. Definitions only.
-use Rattle.std.specs.Prelude.{Bool, ◌&&◌, cond, Float}
+use Rattle.refusal.specs.declared.Reason.TheVariants.{BadCoefficient, BadDiagonal, BadVolume}
+use Rattle.mesh.specs.Answers.{Outcome}
+use Rattle.std.specs.Prelude.{Bool, ◌&&◌, cond, Float, Ok, Err}
 use Rattle.binary64.specs.Numbers.{one64, is_finite, is_usable, magnitude, ◌⊘◌}
 use Rattle.vector.specs.Vector.{difference, scaled}
 use Rattle.vector.specs.declared.Vec3.{Vec3}
-use Rattle.mesh.specs.declared.Outcome.{Outcome}
-use Rattle.mesh.specs.declared.Outcome.TheVariants.{Value, Bad}
 
 -- 1 / value, infinite or not; 11 where the value is not finite or is at most 0
 unfoldable pub inverse_diagonal : Float → Outcome
-inverse_diagonal value = cond (is_usable value) (Value (one64 ⊘ value)) (Bad 11)
+inverse_diagonal value = cond (is_usable value) (Ok (one64 ⊘ value)) (Err BadDiagonal)
 
 -- velocity − gradient × response
 unfoldable pub corrected_velocity : Vec3 → Float → Vec3 → Vec3
@@ -25,4 +25,4 @@ stands response v = is_usable response && finite3 v
 unfoldable pub divergence : Float → Float → Outcome
 divergence outflow volume =
     let d = magnitude (outflow ⊘ volume) in
-    cond (is_usable volume) (cond (is_finite d) (Value d) (Bad 9)) (Bad 12)
+    cond (is_usable volume) (cond (is_finite d) (Ok d) (Err BadCoefficient)) (Err BadVolume)

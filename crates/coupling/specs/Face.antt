@@ -1,10 +1,10 @@
 -- A face between two cells, or between a cell and what stands beyond it: the coefficient of its pressure difference, and its predicted flux, in the Rust's order of operations. Definitions only.
-use Rattle.std.specs.Prelude.{cond, Float}
+use Rattle.refusal.specs.declared.Reason.TheVariants.{TooNear, BadCoefficient}
+use Rattle.mesh.specs.Answers.{Outcome}
+use Rattle.std.specs.Prelude.{cond, Float, Ok, Err}
 use Rattle.binary64.specs.Numbers.{one64, is_finite, is_usable, is_far, ◌⊕◌, ◌⊖◌, ◌⊗◌, ◌⊘◌}
 use Rattle.vector.specs.Vector.{dot, norm_squared, norm, sum, difference, scaled}
 use Rattle.vector.specs.declared.Vec3.{Vec3}
-use Rattle.mesh.specs.declared.Outcome.{Outcome}
-use Rattle.mesh.specs.declared.Outcome.TheVariants.{Value, Bad}
 use Rattle.coupling.specs.declared.Pair.{Pair}
 use Rattle.coupling.specs.declared.Side.{Side}
 use Rattle.coupling.specs.declared.Span.{Span}
@@ -33,14 +33,14 @@ projected response area d = response ⊗ dot area d ⊘ norm_squared d
 
 -- 9 where a coefficient is not finite or is at most 0
 unfoldable pub positive : Float → Outcome
-positive k = cond (is_usable k) (Value k) (Bad 9)
+positive k = cond (is_usable k) (Ok k) (Err BadCoefficient)
 
 -- of a face with two cells; 7 where d² or the sum of the two distances is not finite or is at most EPS
 unfoldable pub internal_coefficient : Span → Pair → Pair → Outcome
 internal_coefficient s d r =
     cond (is_far (norm_squared (across s)))
-    (cond (is_far (d.owner ⊕ d.other)) (positive (projected (face_response d r) s.area (across s))) (Bad 7))
-    (Bad 7)
+    (cond (is_far (d.owner ⊕ d.other)) (positive (projected (face_response d r) s.area (across s))) (Err TooNear))
+    (Err TooNear)
 
 -- of a linked face, whose other centre is that of the peer's owner, translated back; no test of a distance
 unfoldable pub linked_coefficient : Span → Pair → Outcome
@@ -68,7 +68,7 @@ predicted s d k a b =
 
 -- 9 where it is not finite
 unfoldable pub predicted_flux : Span → Pair → Float → Side → Side → Outcome
-predicted_flux s d k a b = cond (is_finite (predicted s d k a b)) (Value (predicted s d k a b)) (Bad 9)
+predicted_flux s d k a b = cond (is_finite (predicted s d k a b)) (Ok (predicted s d k a b)) (Err BadCoefficient)
 
 -- ---- the corrected flux
 
@@ -76,4 +76,4 @@ predicted_flux s d k a b = cond (is_finite (predicted s d k a b)) (Value (predic
 unfoldable pub corrected_flux : Float → Float → Float → Float → Outcome
 corrected_flux p k other own =
     let v = p ⊖ k ⊗ (other ⊖ own) in
-    cond (is_usable k) (cond (is_finite v) (Value v) (Bad 9)) (Bad 9)
+    cond (is_usable k) (cond (is_finite v) (Ok v) (Err BadCoefficient)) (Err BadCoefficient)

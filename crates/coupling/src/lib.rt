@@ -8,6 +8,7 @@ ghost use Rattle.coupling.specs.Cell.{inverse_diagonal, corrected_velocity, stan
 ghost use Rattle.coupling.specs.Face.{distances, face_response, projected, positive, internal_coefficient, linked_coefficient, fixed_coefficient, mixed, predicted, predicted_flux, corrected_flux};
 
 use mesh::Outcome;
+use refusal::Reason;
 use vector::Vec3;
 
 // A face's centre and area vector, and the centres on its two sides.
@@ -36,6 +37,7 @@ pub struct Side {
 }
 
 // How far the face's centre is from the centres of its sides.
+#[tactic(auto, unfolding(crate::specs::Face::distances))]
 pub fn distances(s: Span) -> Pair
     ensures { result ≡ distances s }
 {
@@ -46,6 +48,7 @@ pub fn distances(s: Span) -> Pair
 }
 
 // The response at the face; d are the distances, r the responses.
+#[tactic(auto, unfolding(crate::specs::Face::face_response))]
 pub fn face_response(d: Pair, r: Pair) -> f64
     ensures { result ≡ face_response d r }
 {
@@ -53,36 +56,41 @@ pub fn face_response(d: Pair, r: Pair) -> f64
 }
 
 // A response times the area projected onto d, over its length.
+#[tactic(auto, unfolding(crate::specs::Face::projected))]
 fn projected(response: f64, area: Vec3, d: Vec3) -> f64
     ensures { result ≡ projected response area d }
 {
     response * area.dot(d) / d.norm_squared()
 }
 
+#[tactic(auto, unfolding(crate::specs::Face::positive))]
 fn positive(k: f64) -> Outcome
     ensures { result ≡ positive k }
 {
     if binary64::usable(k) {
-        return Outcome::Value(k);
+        Ok(k)
+    } else {
+        Err(Reason::BadCoefficient)
     }
-    Outcome::Bad(9)
 }
 
 // The coefficient of a face with two cells, at these distances.
+#[tactic(auto, unfolding(crate::specs::Face::internal_coefficient))]
 pub fn internal_coefficient(s: Span, d: Pair, r: Pair) -> Outcome
     ensures { result ≡ internal_coefficient s d r }
 {
     let away = s.other.sub(s.owner);
     if !binary64::far(away.norm_squared()) {
-        return Outcome::Bad(7);
+        return Err(Reason::TooNear);
     }
     if !binary64::far(d.owner + d.other) {
-        return Outcome::Bad(7);
+        return Err(Reason::TooNear);
     }
     positive(projected(face_response(d, r), s.area, away))
 }
 
 // The coefficient of a linked face.
+#[tactic(auto, unfolding(crate::specs::Face::linked_coefficient))]
 pub fn linked_coefficient(s: Span, r: Pair) -> Outcome
     ensures { result ≡ linked_coefficient s r }
 {
@@ -91,18 +99,21 @@ pub fn linked_coefficient(s: Span, r: Pair) -> Outcome
 }
 
 // The coefficient of a fixed-value face, whose centre is `away` from its owner's.
+#[tactic(auto, unfolding(crate::specs::Face::fixed_coefficient))]
 pub fn fixed_coefficient(area: Vec3, away: Vec3, response: f64) -> Outcome
     ensures { result ≡ fixed_coefficient area away response }
 {
     positive(projected(response, area, away))
 }
 
+#[tactic(auto, unfolding(crate::specs::Face::mixed))]
 fn mixed(a: Vec3, s: f64, b: Vec3, t: f64) -> Vec3
     ensures { result ≡ mixed a s b t }
 {
     a.scale(s).add(b.scale(t))
 }
 
+#[tactic(auto, unfolding(crate::specs::Face::predicted))]
 fn predicted(s: Span, d: Pair, k: f64, a: Side, b: Side) -> f64
     ensures { result ≡ predicted s d k a b }
 {
@@ -118,41 +129,48 @@ fn predicted(s: Span, d: Pair, k: f64, a: Side, b: Side) -> f64
 }
 
 // The predicted flux of a face of the coefficient k, at these distances; a is the owner's side.
+#[tactic(auto, unfolding(crate::specs::Face::predicted_flux))]
 pub fn predicted_flux(s: Span, d: Pair, k: f64, a: Side, b: Side) -> Outcome
     ensures { result ≡ predicted_flux s d k a b }
 {
     let flux = predicted(s, d, k, a, b);
     if binary64::finite(flux) {
-        return Outcome::Value(flux);
+        Ok(flux)
+    } else {
+        Err(Reason::BadCoefficient)
     }
-    Outcome::Bad(9)
 }
 
 // The corrected flux of a face of the coefficient k between the corrections `own`, of its owner, and
 // `other`.
+#[tactic(auto, unfolding(crate::specs::Face::corrected_flux))]
 pub fn corrected_flux(predicted: f64, k: f64, other: f64, own: f64) -> Outcome
     ensures { result ≡ corrected_flux predicted k other own }
 {
     if !binary64::usable(k) {
-        return Outcome::Bad(9);
+        return Err(Reason::BadCoefficient);
     }
     let corrected = predicted - k * (other - own);
     if binary64::finite(corrected) {
-        return Outcome::Value(corrected);
+        Ok(corrected)
+    } else {
+        Err(Reason::BadCoefficient)
     }
-    Outcome::Bad(9)
 }
 
 // One over a momentum diagonal.
+#[tactic(auto, unfolding(crate::specs::Cell::inverse_diagonal))]
 pub fn inverse_diagonal(value: f64) -> Outcome
     ensures { result ≡ inverse_diagonal value }
 {
     if binary64::usable(value) {
-        return Outcome::Value(1.0 / value);
+        Ok(1.0 / value)
+    } else {
+        Err(Reason::BadDiagonal)
     }
-    Outcome::Bad(11)
 }
 
+#[tactic(auto, unfolding(crate::specs::Cell::corrected_velocity))]
 pub fn corrected_velocity(velocity: Vec3, response: f64, gradient: Vec3) -> Vec3
     ensures { result ≡ corrected_velocity velocity response gradient }
 {
@@ -160,6 +178,7 @@ pub fn corrected_velocity(velocity: Vec3, response: f64, gradient: Vec3) -> Vec3
 }
 
 // Whether a velocity that was corrected by a response may stand.
+#[tactic(auto, unfolding(crate::specs::Cell::stands))]
 pub fn stands(response: f64, v: Vec3) -> bool
     ensures { result ≡ stands response v }
 {
@@ -168,15 +187,17 @@ pub fn stands(response: f64, v: Vec3) -> bool
 }
 
 // The magnitude of an outflow over the cell's volume.
+#[tactic(auto, unfolding(crate::specs::Cell::divergence))]
 pub fn divergence(outflow: f64, volume: f64) -> Outcome
     ensures { result ≡ divergence outflow volume }
 {
     if !binary64::usable(volume) {
-        return Outcome::Bad(12);
+        return Err(Reason::BadVolume);
     }
     let d = binary64::abs(outflow / volume);
     if binary64::finite(d) {
-        return Outcome::Value(d);
+        Ok(d)
+    } else {
+        Err(Reason::BadCoefficient)
     }
-    Outcome::Bad(9)
 }

@@ -7,8 +7,8 @@ use native.Mathlib.Omega.{arith}
 use native.Mathlib.Numerals.{add-one}
 use borrow.Author.Tests.{ltb-true, ltb-false, lt-ltb, le-ltb, eqb-true, eqb-false}
 use lib.Dec.{eqb, ltb, eqb-zero-suc, eqb-suc-suc, eqb-suc-zero}
-use lib.ListN.{length, get_or, length-set, replicate, length-replicate, get_or-replicate}
-use lib.Seq.{get_or-set_same, get_or-set_other}
+use lib.ListN.{length, get_or, length-set, replicate, get_or-replicate}
+use lib.Seq.{set_out, get_or-set_same, get_or-set_other}
 use Rattle.chain.specs.Pairs.{first_at, second_at}
 use Rattle.degree.specs.Degree.{count_where, names, crowded}
 use Rattle.degree.specs.Counts.{capped, bumped, with_face, counted}
@@ -33,6 +33,9 @@ capped-suc n = go (ltb n 27) refl
     go false e = let h = ltb-false n 27 e in rw (capped_large n h, capped_large (suc n) (omega arith), capped_large (27 + 1) (omega arith))
 
 -- ---- one store
+pub bumped_out : (l : List ℕ) (c : ℕ) → length l ≤ c → l ≡ bumped l c
+bumped_out l c h = sym (set_out l c (capped (get_or l c 0 + 1)) h)
+
 module _ (l : List ℕ) where
   bump_read : (o c : ℕ) → c < length l → get_or (bumped l o) c 0 ≡ cond (eqb o c) (capped (get_or l c 0 + 1)) (get_or l c 0)
   bump_read o c h = go (eqb o c) refl
@@ -45,7 +48,10 @@ pub length_face : (adjacency : List ℕ) (f : ℕ) (l : List ℕ) → length (wi
 unfolding with_face
 length_face adjacency f l = go (eqb (second_at adjacency f) 0) (eqb (second_at adjacency f - 1) (first_at adjacency f))
   where
-    go : (a b : Bool) → length (cond a (bumped l (first_at adjacency f)) (cond b (bumped l (first_at adjacency f)) (bumped (bumped l (first_at adjacency f)) (second_at adjacency f - 1)))) ≡ length l
+    once : List ℕ
+    once = bumped l (first_at adjacency f)
+
+    go : (a b : Bool) → length (cond a once (cond b once (bumped once (second_at adjacency f - 1)))) ≡ length l
     go true b = simp length-set
     go false true = simp length-set
     go false false = simp length-set
@@ -96,14 +102,15 @@ unfolding counted
 length-counted adjacency l zero = refl
 length-counted adjacency l (suc n) = length_face adjacency n (counted adjacency l n) ∙ length-counted adjacency l n
 
-pub counts : (adjacency l : List ℕ) (n c : ℕ) → c < length l → get_or l c 0 ≡ 0 → get_or (counted adjacency l n) c 0 ≡ capped (count_where (names adjacency c) n)
+pub counts : (adjacency l : List ℕ) (n c : ℕ) → c < length l → get_or l c 0 ≡ 0
+    → get_or (counted adjacency l n) c 0 ≡ capped (count_where (names adjacency c) n)
 unfolding counted count_where with_face names
 counts adjacency l zero c h z = z ∙ sym (capped_small 0 (omega arith))
 counts adjacency l (suc n) c h z =
     face_reads (counted adjacency l n) (first_at adjacency n) (second_at adjacency n) c (subst (λ (k : ℕ). c < k) (sym (length-counted adjacency l n)) h)
     ∙ rw (counts adjacency l n c h z) (go (eqb (first_at adjacency n) c || eqb (second_at adjacency n) (suc c)))
   where
-    go : (b : Bool) → cond b (capped (capped (count_where (names adjacency c) n) + 1)) (capped (count_where (names adjacency c) n)) ≡ capped (cond b (suc (count_where (names adjacency c) n)) (count_where (names adjacency c) n))
+    go : (b : Bool) → let k = count_where (names adjacency c) n in cond b (capped (capped k + 1)) (capped k) ≡ capped (cond b (suc k) k)
     go true = capped-suc (count_where (names adjacency c) n)
     go false = refl
 
@@ -116,7 +123,9 @@ over n = go (ltb n 27) refl
     go false e = let h = ltb-false n 27 e in rw (capped_large n h, lt-ltb 26 n (omega arith))
 
 -- what a list that has counted every face from 0 says of a cell within it
-pub tested : (adjacency : List ℕ) (size : ℕ) (named : List ℕ) (c : ℕ) → named ≡ counted adjacency (replicate size 0) (length adjacency / 2) → c < size → ltb 26 (get_or named c 0) ≡ crowded adjacency c
+pub tested : (adjacency old named : List ℕ) (c : ℕ) → old ≡ replicate (length old) 0 → c < length old
+    → named ≡ counted adjacency old (length adjacency / 2) → ltb 26 (get_or named c 0) ≡ crowded adjacency c
 unfolding crowded
-tested adjacency size named c e h =
-    rw (e, counts adjacency (replicate size 0) (length adjacency / 2) c (subst (λ (k : ℕ). c < k) (sym (length-replicate size (zero))) h) (get_or-replicate size c zero 0 h)) (over (count_where (names adjacency c) (length adjacency / 2)))
+tested adjacency old named c z h e =
+    let zero-at : get_or old c 0 ≡ 0 = rw z (get_or-replicate (length old) c zero 0 h) in
+    rw (e, counts adjacency old (length adjacency / 2) c h zero-at) (over (count_where (names adjacency c) (length adjacency / 2)))

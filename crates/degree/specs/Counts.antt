@@ -1,9 +1,9 @@
--- Namings as they are counted: a list with a number for each cell, which goes no further than one above the limit. And chains that are found short in one reading of the records. Definitions only.
-use Rattle.std.specs.Prelude.{◌≡◌, List, Bool, true, ◌&&◌, cond, ℕ, zero, suc, ◌+◌, ◌-◌, ◌/◌, ◌≤◌, ◌<◌, eqb, ltb, length, get_or, set}
+-- Namings as they are counted: a list with a number for each cell, which goes no further than one above the limit. And chains
+-- that are found short in one reading of the records. Definitions only.
+use Rattle.std.specs.Prelude.{◌≡◌, List, Bool, true, ◌&&◌, cond, ℕ, zero, suc, ◌+◌, ◌-◌}
+use Rattle.std.specs.Prelude.{◌/◌, ◌≤◌, ◌<◌, eqb, ltb, length, get_or, set, Option, None, Some}
 use Rattle.chain.specs.Pairs.{first_at, second_at}
 use Rattle.chain.specs.Chains.{ends}
-use Rattle.chain.specs.declared.Found.{Found}
-use Rattle.chain.specs.declared.Found.TheVariants.{Nothing, At}
 use Rattle.degree.specs.Degree.{most_faces}
 
 unfoldable pub capped : ℕ → ℕ
@@ -26,12 +26,13 @@ unfoldable pub counted : List ℕ → List ℕ → ℕ → List ℕ
 counted adjacency l zero = l
 counted adjacency l (suc n) = with_face adjacency n (counted adjacency l n)
 
--- where the chain of the record behind i, both from 0, begins: where that of i does, which is `begin`, if i leads there; behind i if i ends its chain, which is short; else nowhere
-unfoldable pub begin_after : ℕ → List ℕ → ℕ → ℕ → Found
+-- where the chain of the record behind i, both from 0, begins: where that of i does, which is `begin`, if i leads there;
+-- behind i if i ends its chain, which is short; else nowhere
+unfoldable pub begin_after : ℕ → List ℕ → ℕ → ℕ → Option ℕ
 begin_after limit l i begin =
     cond (ltb (first_at l i) limit)
-    (cond (eqb (second_at l i) (i + 2)) (At begin) (cond (eqb (second_at l i) 0 && ltb (i - begin) most_faces) (At (i + 1)) Nothing))
-    Nothing
+    (cond (eqb (second_at l i) (i + 2)) (Some begin) (cond (eqb (second_at l i) 0 && ltb (i - begin) most_faces) (Some (i + 1)) None))
+    None
 
 -- the chain from the record r on ends, with items below the limit, within as few records as a cell may have
 pub record Short (l : List ℕ) (limit r : ℕ) : Type 0 where

@@ -1,10 +1,9 @@
 -- How many faces a cell has, counted twice over: the faces that name it, and the records of its chain of faces. Check 14. Definitions only.
-use Rattle.std.specs.Prelude.{List, Bool, ◌||◌, cond, ℕ, zero, suc, ◌/◌, ◌<◌, ◌≤◌, eqb, ltb, length}
+use Rattle.std.specs.Prelude.{List, Bool, ◌||◌, cond, ℕ, zero, suc, ◌/◌, ◌<◌, ◌≤◌, eqb, ltb, length, Option}
 use Rattle.chain.specs.Pairs.{first_at, second_at}
 use Rattle.chain.specs.Search.{lowest_where}
 use Rattle.chain.specs.Chains.{head_at, cell_count, walk, lowest_broken}
-use Rattle.chain.specs.declared.Found.{Found}
-use Rattle.chain.specs.declared.walk.Form.TheVariants.{First}
+use Rattle.chain.specs.declared.Form.TheVariants.{First}
 use Rattle.degree.specs.declared.Facing.{Facing}
 
 -- the most faces that a cell may have
@@ -36,7 +35,7 @@ FewNamings cells adjacency = (c : ℕ) → c < cells → namings adjacency c ≤
 unfoldable pub crowded : List ℕ → ℕ → Bool
 crowded adjacency c = ltb most_faces (namings adjacency c)
 
-abbrev pub lowest_crowded : ℕ → List ℕ → Found
+abbrev pub lowest_crowded : ℕ → List ℕ → Option ℕ
 lowest_crowded cells adjacency = lowest_where (crowded adjacency) cells
 
 -- ---- the records of a cell's chain of faces
@@ -48,7 +47,7 @@ chain_length facing heads c = length (walk facing (length facing / 2) (head_at F
 unfoldable pub long : List ℕ → List ℕ → ℕ → Bool
 long facing heads c = ltb most_faces (chain_length facing heads c)
 
-abbrev pub lowest_long : List ℕ → List ℕ → Found
+abbrev pub lowest_long : List ℕ → List ℕ → Option ℕ
 lowest_long heads facing = lowest_where (long facing heads) (cell_count First heads)
 
 -- what 5 and 14 find of the chains of faces

@@ -3,17 +3,22 @@ ghost use Rattle.std.specs.Prelude.{◌≡◌, ◌+◌, ◌*◌, ◌/◌, ◌<�
 ghost use Rattle.degree.specs.Degree.{lowest_crowded};
 ghost use Rattle.degree.specs.Counts.{capped, bumped, with_face, counted};
 
-use chain::Found;
+use crate::MOST_FACES;
 use chain::inner::{first_of, second_of};
 
-// One more, up to 27.
+// Where a count stops: one above the most.
+const OVER: u8 = MOST_FACES as u8 + 1;
+
+// One more, as far as a count goes.
+#[tactic(auto, using(crate::proofs::Counting::capped_small, crate::proofs::Counting::capped_large))]
 fn one_more(n: u8) -> u8
     ensures { result ≡ capped (n + 1) }
 {
-    if n < 27 { n + 1 } else { 27 }
+    if n < OVER { n + 1 } else { OVER }
 }
 
 // One more for a cell, where there is a place for it.
+#[tactic(auto, using(crate::proofs::Counting::bumped_out))]
 fn bump(named: &mut [u8], cell: usize)
     ensures { named.new ≡ bumped named.old cell }
 {
@@ -23,6 +28,7 @@ fn bump(named: &mut [u8], cell: usize)
 }
 
 // One more for each cell that the face f names.
+#[tactic(auto, unfolding(crate::specs::Counts::with_face))]
 fn add_face(adjacency: &[usize], f: usize, named: &mut [u8])
     requires { 2 * f + 1 < length adjacency.now }
     ensures { named.new ≡ with_face adjacency.now f named.old }
@@ -37,47 +43,33 @@ fn add_face(adjacency: &[usize], f: usize, named: &mut [u8])
     }
 }
 
-// The faces that name each cell, up to 27.
+// The faces that name each cell, as far as a count goes.
+#[tactic(auto, unfolding(crate::specs::Counts::counted))]
 fn count(adjacency: &[usize], named: &mut [u8])
     ensures counts { let a = adjacency.now in
         named.new ≡ counted a named.old (length a / 2) }
 {
-    let mut f = 0;
-    while f < adjacency.len() / 2 {
+    for f in 0..adjacency.len() / 2 {
         add_face(adjacency, f, named);
-        f += 1;
     }
 }
 
 // The lowest of so many cells that more than 26 faces name, counted in a slice of zeros.
-fn lowest_in(cells: usize, adjacency: &[usize], named: &mut [u8]) -> Found
-    requires zeros { (cells ≤ length named.old) × (named.old ≡ replicate (length named.old) 0) }
+fn lowest_in(cells: usize, adjacency: &[usize], named: &mut [u8]) -> Option<usize>
+    requires room { cells ≤ length named.old }
+    requires zeros { named.old ≡ replicate (length named.old) 0 }
     ensures { result ≡ lowest_crowded cells adjacency.now }
 {
     count(adjacency, named);
-    let mut c = 0;
-    while c < cells {
-        if 26 < named[c] {
-            return Found::At(c);
-        }
-        c += 1;
-    }
-    Found::Nothing
+    chain::lowest(cells, |c| MOST_FACES < usize::from(named[c]))
 }
 
-// The search with room for few cells, and with room for all that a mesh may have.
-pub(crate) fn lowest_of_few(cells: usize, adjacency: &[usize]) -> Found
-    requires { cells ≤ 4096 }
+// The same with room for N cells.
+pub(crate) fn lowest_of<const N: usize>(cells: usize, adjacency: &[usize]) -> Option<usize>
+    requires room { cells ≤ N }
+    requires few { N ≤ 65536 }
     ensures { result ≡ lowest_crowded cells adjacency.now }
 {
-    let mut named = [0u8; 4096];
-    lowest_in(cells, adjacency, &mut named)
-}
-
-pub(crate) fn lowest_of_many(cells: usize, adjacency: &[usize]) -> Found
-    requires { cells ≤ 65536 }
-    ensures { result ≡ lowest_crowded cells adjacency.now }
-{
-    let mut named = [0u8; 65536];
+    let mut named = [0u8; N];
     lowest_in(cells, adjacency, &mut named)
 }

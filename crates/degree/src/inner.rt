@@ -3,15 +3,14 @@ ghost use Rattle.std.specs.Prelude.{◌≡◌, ◌≤◌};
 ghost use Rattle.degree.specs.Degree.{lowest_crowded};
 
 use crate::count;
-use chain::Found;
 
 // Check 14, of the faces that name a cell, of up to 65,536 cells: the lowest cell that more than 26 faces name.
-pub fn lowest_crowded(cells: usize, adjacency: &[usize]) -> Found
+pub fn lowest_crowded(cells: usize, adjacency: &[usize]) -> Option<usize>
     requires { cells ≤ 65536 }
     ensures { result ≡ lowest_crowded cells adjacency.now }
 {
     if cells <= 4096 {
-        return count::lowest_of_few(cells, adjacency);
+        return count::lowest_of::<4096>(cells, adjacency);
     }
-    count::lowest_of_many(cells, adjacency)
+    count::lowest_of::<65536>(cells, adjacency)
 }

@@ -1,15 +1,16 @@
 // How many records a cell's chain of faces has.
 ghost use Rattle.std.specs.Prelude.{◌≡◌, ◌/◌, ◌<◌, ◌≤◌, length};
 ghost use Rattle.chain.specs.Chains.{head_at};
-ghost use Rattle.chain.specs.declared.walk.Form.TheVariants.{First};
+ghost use Rattle.chain.specs.declared.Form.TheVariants.{First};
 ghost use Rattle.degree.specs.Degree.{long, lowest_long};
 ghost use Rattle.degree.specs.Counts.{begin_after, AllShort};
 
 use crate::MOST_FACES;
 use chain::inner::{first_of, second_of};
-use chain::{Found, first_at, second_at};
+use chain::{first_at, second_at};
 
 // Whether a cell's chain has more than 26 records.
+#[tactic(auto, using(crate::proofs::Chained::passing), unfolding(crate::specs::Degree::long))]
 fn is_long(heads: &[usize], facing: &[usize], cell: usize) -> bool
     ensures { result ≡ long facing.now heads.now cell }
 {
@@ -17,70 +18,56 @@ fn is_long(heads: &[usize], facing: &[usize], cell: usize) -> bool
         return false;
     }
     let mut r = first_at(heads, cell);
-    let mut n: usize = 0;
-    while r != 0 {
-        if n == MOST_FACES {
-            return true;
+    for _n in 0..MOST_FACES {
+        if r == 0 {
+            return false;
         }
         r = second_at(facing, r - 1);
-        n += 1;
     }
-    false
+    r != 0
 }
 
 // The lowest cell whose chain has.
-pub(crate) fn lowest(heads: &[usize], facing: &[usize]) -> Found
+pub(crate) fn lowest(heads: &[usize], facing: &[usize]) -> Option<usize>
     ensures { result ≡ lowest_long heads.now facing.now }
 {
-    let mut cell = 0;
-    while cell < heads.len() / 2 {
-        if is_long(heads, facing, cell) {
-            return Found::At(cell);
-        }
-        cell += 1;
-    }
-    Found::Nothing
+    chain::lowest(heads.len() / 2, |cell| is_long(heads, facing, cell))
 }
 
 // Where the chain of the next record begins, once record i, from 0, of a chain that begins at `begin` is read:
 // there too where it leads to the one behind it, and behind it where it ends its chain as one of at most 26.
-// Nothing where it does neither, or its item is not below the limit.
-fn begin_after(limit: usize, records: &[usize], i: usize, begin: usize) -> Found
+// None where it does neither, or its item is not below the limit.
+#[tactic(auto, unfolding(crate::specs::Counts::begin_after))]
+fn begin_after(limit: usize, records: &[usize], i: usize, begin: usize) -> Option<usize>
     requires { (i < length records.now / 2) × (begin ≤ i) }
     ensures { result ≡ begin_after limit records.now i begin }
 {
     if limit <= first_of(records, i) {
-        return Found::Nothing;
+        return None;
     }
     let next = second_of(records, i);
     if next == i + 2 {
-        return Found::At(begin);
+        return Some(begin);
     }
     if (next == 0) & (i - begin < MOST_FACES) {
-        return Found::At(i + 1);
+        return Some(i + 1);
     }
-    Found::Nothing
+    None
 }
 
 // Whether every record has an item below the limit and leads to the one behind it or ends its chain, and no
 // chain of them has more than 26 records.
+#[tactic(auto, using(crate::proofs::Chained::more))]
 pub(crate) fn all_short(limit: usize, records: &[usize]) -> bool
     ensures { AllShort result limit records.now }
 {
     let count = records.len() / 2;
     let mut begin = 0;
-    let mut i = 0;
-    while i < count {
-        let b = begin_after(limit, records, i, begin);
-        match b {
-            Found::Nothing => {
-                return false;
-            }
-            Found::At(next) => {
-                begin = next;
-            }
-        }
-        i += 1;
+    for i in 0..count {
+        let Some(next) = begin_after(limit, records, i, begin) else {
+            return false;
+        };
+        begin = next;
     }
     begin == count
 }

@@ -4,11 +4,11 @@
 ghost use Rattle.std.specs.Prelude.{◌≡◌};
 ghost use Rattle.degree.specs.Degree.{lowest_long, searched};
 
-use chain::Found;
-
 mod count;
 pub mod inner;
 mod length;
+
+use chain::Form;
 
 // The most faces that a cell may have.
 pub const MOST_FACES: usize = 26;
@@ -17,12 +17,12 @@ pub const MOST_FACES: usize = 26;
 // whose chain has more than 26 records.
 #[derive(Clone, Copy)]
 pub struct Facing {
-    pub broken: Found,
-    pub long: Found,
+    pub broken: Option<usize>,
+    pub long: Option<usize>,
 }
 
 // Check 14, of the chains of faces: the lowest cell whose chain has more than 26 records.
-pub fn lowest_long(heads: &[usize], facing: &[usize]) -> Found
+pub fn lowest_long(heads: &[usize], facing: &[usize]) -> Option<usize>
     ensures { result ≡ lowest_long heads.now facing.now }
 {
     length::lowest(heads, facing)
@@ -36,13 +36,13 @@ pub fn search(faces: usize, heads: &[usize], facing: &[usize]) -> Facing
     if length::all_short(faces, facing) {
         if chain::inner::heads_within_facing(facing.len() / 2, heads) {
             return Facing {
-                broken: Found::Nothing,
-                long: Found::Nothing,
+                broken: None,
+                long: None,
             };
         }
     }
     Facing {
-        broken: chain::lowest_broken_facing(faces, heads, facing),
+        broken: chain::lowest_broken(faces, facing, Form::First, heads),
         long: length::lowest(heads, facing),
     }
 }

@@ -3,26 +3,44 @@
 // edges` from the Rust; none was taken from a run.
 #![tactic(auto)]
 
-use mesh::Answer;
+use change::Change;
+use entry::Entry;
 use std::io;
 
-mod entries;
+mod calls;
+mod case;
+mod change;
+mod entry;
+mod output;
+mod tables;
 
-// Writes what follows a case's name. Answers whether the call was accepted.
-fn print_answer(rt: &impl Print, answer: Answer) -> io::Result<bool> {
-    match answer {
-        Answer::Accepted => {
-            pattern::print::text(rt, b": accepted")?;
-            Ok(true)
-        }
-        Answer::Refused(number, index) => {
-            pattern::print::text(rt, b": ")?;
-            pattern::print::refusal(rt, number, index)?;
-            Ok(false)
-        }
+// Writes the lines of an entry's cases: the base, with the change that the name says.
+fn run<R: Print + AllocGlobal>(rt: &R, entry: Entry, cases: &[(&str, Change)]) -> io::Result<()> {
+    for (name, change) in cases {
+        print!(rt; "{entry}, {name}: ")?;
+        change.show(rt, entry)?;
     }
+    Ok(())
 }
 
 fn main(rt: HostRuntime) -> io::Result<()> {
-    entries::all(&rt)
+    run(&rt, Entry::MomentumInverseDiagonal, tables::DIAGONAL)?;
+    run(&rt, Entry::LeastSquaresStencil, tables::STENCIL)?;
+    run(&rt, Entry::LeastSquaresGradient, tables::GRADIENT)?;
+    run(&rt, Entry::PressureFaceCoefficients, tables::COEFFICIENTS)?;
+    run(
+        &rt,
+        Entry::PressureFaceCoefficientsWithBoundary,
+        tables::BOUNDARY,
+    )?;
+    run(&rt, Entry::RhieChowPredictedFlux, tables::PREDICTION)?;
+    run(&rt, Entry::CorrectFaceFluxWithBoundary, tables::CORRECTION)?;
+    run(
+        &rt,
+        Entry::CorrectCellVelocityFromGradient,
+        tables::VELOCITY,
+    )?;
+    run(&rt, Entry::IntegratedDivergence, tables::OUTFLOW)?;
+    run(&rt, Entry::ContinuityMetrics, tables::METRICS)?;
+    run(&rt, Entry::Step, tables::STEP)
 }

@@ -1,287 +1,209 @@
 // Refusal 5: the chains of faces and of neighbours, on the row of four cells.
-use crate::lent::{Lent, row};
-use crate::show;
+use crate::case::Case;
+use crate::change::Change::{
+    self, Borderings, Cell, Code, Face, Facings, FirstFace, FirstNeighbour, NextFace,
+    NextNeighbour, Owner,
+};
+use crate::run;
 use std::io;
 
-fn first_faces(rt: &impl Print) -> io::Result<()> {
-    let base = row();
-    show(
-        rt,
-        b"first face record past the last, first cell",
-        base.with_first_face(0, 10),
-    )?;
-    show(
-        rt,
-        b"first face record past the last, last cell",
-        base.with_first_face(3, 10),
-    )?;
-    show(
-        rt,
-        b"first face record the largest number, first cell",
-        base.with_first_face(0, usize::MAX),
-    )?;
-    show(
-        rt,
-        b"first face record the largest number, last cell",
-        base.with_first_face(3, usize::MAX),
-    )?;
-    show(rt, b"one face record fewer", base.with_facings(8))?;
-    show(rt, b"no face record", base.with_facings(0))?;
-    show(
-        rt,
-        b"a cell with no face record",
-        base.with_first_face(2, 0),
-    )
-}
+const FACE_RECORDS: &[(&str, &[Change])] = &[
+    ("four cells and six faces", &[]),
+    (
+        "first face record past the last, first cell",
+        &[FirstFace(0, 10)],
+    ),
+    (
+        "first face record past the last, last cell",
+        &[FirstFace(3, 10)],
+    ),
+    (
+        "first face record the largest number, first cell",
+        &[FirstFace(0, usize::MAX)],
+    ),
+    (
+        "first face record the largest number, last cell",
+        &[FirstFace(3, usize::MAX)],
+    ),
+    ("one face record fewer", &[Facings(8)]),
+    ("no face record", &[Facings(0)]),
+    ("a cell with no face record", &[FirstFace(2, 0)]),
+    (
+        "next face record past the last, first cell",
+        &[NextFace(2, 10)],
+    ),
+    (
+        "next face record past the last, last cell",
+        &[NextFace(9, 10)],
+    ),
+    (
+        "next face record the largest number, first cell",
+        &[NextFace(2, usize::MAX)],
+    ),
+    (
+        "next face record the largest number, last cell",
+        &[NextFace(9, usize::MAX)],
+    ),
+    ("missing face, first record", &[Face(1, 6)]),
+    ("missing face, last record", &[Face(9, 6)]),
+    (
+        "missing face of the largest number, first record",
+        &[Face(1, usize::MAX)],
+    ),
+    (
+        "missing face of the largest number, last record",
+        &[Face(9, usize::MAX)],
+    ),
+    ("last face, first record", &[Face(1, 5)]),
+    (
+        "missing face in a record of no chain",
+        &[FirstFace(3, 0), Face(9, 6)],
+    ),
+];
 
-fn next_faces(rt: &impl Print) -> io::Result<()> {
-    let base = row();
-    show(
-        rt,
-        b"next face record past the last, first cell",
-        base.with_next_face(2, 10),
-    )?;
-    show(
-        rt,
-        b"next face record past the last, last cell",
-        base.with_next_face(9, 10),
-    )?;
-    show(
-        rt,
-        b"next face record the largest number, first cell",
-        base.with_next_face(2, usize::MAX),
-    )?;
-    show(
-        rt,
-        b"next face record the largest number, last cell",
-        base.with_next_face(9, usize::MAX),
-    )
-}
+const FACE_CIRCLES: &[(&str, &[Change])] = &[
+    ("circle of one face record, first cell", &[NextFace(1, 1)]),
+    ("circle of one face record, last cell", &[NextFace(9, 9)]),
+];
 
-fn named_faces(rt: &impl Print) -> io::Result<()> {
-    let base = row();
-    show(rt, b"missing face, first record", base.with_face(1, 6))?;
-    show(rt, b"missing face, last record", base.with_face(9, 6))?;
-    show(
-        rt,
-        b"missing face of the largest number, first record",
-        base.with_face(1, usize::MAX),
-    )?;
-    show(
-        rt,
-        b"missing face of the largest number, last record",
-        base.with_face(9, usize::MAX),
-    )?;
-    show(rt, b"last face, first record", base.with_face(1, 5))?;
-    show(
-        rt,
-        b"missing face in a record of no chain",
-        base.with_first_face(3, 0).with_face(9, 6),
-    )
-}
+// Every face record but the last chained to the next.
+const FACE_CHAIN: &[Change] = &[NextFace(2, 3), NextFace(4, 5), NextFace(7, 8)];
 
-// No cell has a chain of faces but the last, from record 1 on.
-fn last_only(lent: Lent) -> Lent {
-    lent.with_first_face(0, 0)
-        .with_first_face(1, 0)
-        .with_first_face(2, 0)
-        .with_first_face(3, 1)
-}
+const FACE_CHAINS: &[(&str, &[Change])] = &[
+    ("circle of all face records, every cell", &[NextFace(9, 1)]),
+    (
+        "circle of all face records, last cell only",
+        &[
+            NextFace(9, 1),
+            FirstFace(0, 0),
+            FirstFace(1, 0),
+            FirstFace(2, 0),
+            FirstFace(3, 1),
+        ],
+    ),
+    ("chain of all face records, every cell", &[NextFace(9, 0)]),
+    (
+        "chain of all face records, last cell only",
+        &[
+            NextFace(9, 0),
+            FirstFace(0, 0),
+            FirstFace(1, 0),
+            FirstFace(2, 0),
+            FirstFace(3, 1),
+        ],
+    ),
+];
 
-// Every face record chained to the next, and the last to `end`.
-fn all_faces(end: usize) -> Lent {
-    row()
-        .with_next_face(2, 3)
-        .with_next_face(4, 5)
-        .with_next_face(7, 8)
-        .with_next_face(9, end)
-}
+const NEIGHBOUR_RECORDS: &[(&str, &[Change])] = &[
+    ("face chain of two cells", &[FirstFace(1, 1)]),
+    (
+        "first neighbour record past the last, first cell",
+        &[FirstNeighbour(0, 7)],
+    ),
+    (
+        "first neighbour record past the last, last cell",
+        &[FirstNeighbour(3, 7)],
+    ),
+    (
+        "first neighbour record the largest number, first cell",
+        &[FirstNeighbour(0, usize::MAX)],
+    ),
+    (
+        "first neighbour record the largest number, last cell",
+        &[FirstNeighbour(3, usize::MAX)],
+    ),
+    ("one neighbour record fewer", &[Borderings(5)]),
+    ("no neighbour record", &[Borderings(0)]),
+    ("a cell with no neighbour record", &[FirstNeighbour(2, 0)]),
+    (
+        "next neighbour record past the last, first cell",
+        &[NextNeighbour(1, 7)],
+    ),
+    (
+        "next neighbour record past the last, last cell",
+        &[NextNeighbour(6, 7)],
+    ),
+    (
+        "next neighbour record the largest number, first cell",
+        &[NextNeighbour(1, usize::MAX)],
+    ),
+    (
+        "next neighbour record the largest number, last cell",
+        &[NextNeighbour(6, usize::MAX)],
+    ),
+    ("missing cell, first record", &[Cell(1, 4)]),
+    ("missing cell, last record", &[Cell(6, 4)]),
+    (
+        "missing cell of the largest number, first record",
+        &[Cell(1, usize::MAX)],
+    ),
+    (
+        "missing cell of the largest number, last record",
+        &[Cell(6, usize::MAX)],
+    ),
+    ("last cell, first record", &[Cell(1, 3)]),
+    (
+        "missing cell in a record of no chain",
+        &[FirstNeighbour(3, 0), Cell(6, 4)],
+    ),
+    (
+        "circle of one neighbour record, first cell",
+        &[NextNeighbour(1, 1)],
+    ),
+    (
+        "circle of one neighbour record, last cell",
+        &[NextNeighbour(6, 6)],
+    ),
+];
 
-fn face_circles(rt: &impl Print) -> io::Result<()> {
-    let base = row();
-    show(
-        rt,
-        b"circle of one face record, first cell",
-        base.with_next_face(1, 1),
-    )?;
-    show(
-        rt,
-        b"circle of one face record, last cell",
-        base.with_next_face(9, 9),
-    )?;
-    show(rt, b"circle of all face records, every cell", all_faces(1))?;
-    show(
-        rt,
-        b"circle of all face records, last cell only",
-        last_only(all_faces(1)),
-    )?;
-    show(rt, b"chain of all face records, every cell", all_faces(0))?;
-    show(
-        rt,
-        b"chain of all face records, last cell only",
-        last_only(all_faces(0)),
-    )?;
-    show(rt, b"face chain of two cells", base.with_first_face(1, 1))
-}
+// Every neighbour record but the last chained to the next.
+const NEIGHBOUR_CHAIN: &[Change] = &[
+    NextNeighbour(1, 2),
+    NextNeighbour(3, 4),
+    NextNeighbour(5, 6),
+];
 
-fn first_neighbours(rt: &impl Print) -> io::Result<()> {
-    let base = row();
-    show(
-        rt,
-        b"first neighbour record past the last, first cell",
-        base.with_first_neighbour(0, 7),
-    )?;
-    show(
-        rt,
-        b"first neighbour record past the last, last cell",
-        base.with_first_neighbour(3, 7),
-    )?;
-    show(
-        rt,
-        b"first neighbour record the largest number, first cell",
-        base.with_first_neighbour(0, usize::MAX),
-    )?;
-    show(
-        rt,
-        b"first neighbour record the largest number, last cell",
-        base.with_first_neighbour(3, usize::MAX),
-    )?;
-    show(rt, b"one neighbour record fewer", base.with_borderings(5))?;
-    show(rt, b"no neighbour record", base.with_borderings(0))?;
-    show(
-        rt,
-        b"a cell with no neighbour record",
-        base.with_first_neighbour(2, 0),
-    )
-}
+const NEIGHBOUR_CHAINS: &[(&str, &[Change])] = &[
+    (
+        "circle of all neighbour records, every cell",
+        &[NextNeighbour(6, 1)],
+    ),
+    (
+        "chain of all neighbour records, every cell",
+        &[NextNeighbour(6, 0)],
+    ),
+];
 
-fn next_neighbours(rt: &impl Print) -> io::Result<()> {
-    let base = row();
-    show(
-        rt,
-        b"next neighbour record past the last, first cell",
-        base.with_next_neighbour(1, 7),
-    )?;
-    show(
-        rt,
-        b"next neighbour record past the last, last cell",
-        base.with_next_neighbour(6, 7),
-    )?;
-    show(
-        rt,
-        b"next neighbour record the largest number, first cell",
-        base.with_next_neighbour(1, usize::MAX),
-    )?;
-    show(
-        rt,
-        b"next neighbour record the largest number, last cell",
-        base.with_next_neighbour(6, usize::MAX),
-    )
-}
+const LOWEST: &[(&str, &[Change])] = &[
+    ("neighbour chain of two cells", &[FirstNeighbour(1, 1)]),
+    (
+        "face chains broken at cells 1 and 3",
+        &[NextFace(4, 10), FirstFace(3, 10)],
+    ),
+    (
+        "neighbour chain broken at cell 1, face chain at cell 2",
+        &[Cell(2, 4), Face(5, 6)],
+    ),
+    (
+        "face chain broken at cell 1, neighbour chain at cell 2",
+        &[Face(3, 6), Cell(4, 4)],
+    ),
+    ("both chains broken at cell 2", &[Face(5, 6), Cell(4, 4)]),
+    (
+        "bad face at face 4, broken chain at cell 0",
+        &[Owner(4, 4), FirstFace(0, 10)],
+    ),
+    (
+        "unknown code at face 5, broken chain at cell 0",
+        &[Code(5, 3), FirstNeighbour(0, 7)],
+    ),
+];
 
-fn named_cells(rt: &impl Print) -> io::Result<()> {
-    let base = row();
-    show(rt, b"missing cell, first record", base.with_cell(1, 4))?;
-    show(rt, b"missing cell, last record", base.with_cell(6, 4))?;
-    show(
-        rt,
-        b"missing cell of the largest number, first record",
-        base.with_cell(1, usize::MAX),
-    )?;
-    show(
-        rt,
-        b"missing cell of the largest number, last record",
-        base.with_cell(6, usize::MAX),
-    )?;
-    show(rt, b"last cell, first record", base.with_cell(1, 3))?;
-    show(
-        rt,
-        b"missing cell in a record of no chain",
-        base.with_first_neighbour(3, 0).with_cell(6, 4),
-    )
-}
-
-// Every neighbour record chained to the next, and the last to `end`.
-fn all_neighbours(end: usize) -> Lent {
-    row()
-        .with_next_neighbour(1, 2)
-        .with_next_neighbour(3, 4)
-        .with_next_neighbour(5, 6)
-        .with_next_neighbour(6, end)
-}
-
-fn neighbour_circles(rt: &impl Print) -> io::Result<()> {
-    let base = row();
-    show(
-        rt,
-        b"circle of one neighbour record, first cell",
-        base.with_next_neighbour(1, 1),
-    )?;
-    show(
-        rt,
-        b"circle of one neighbour record, last cell",
-        base.with_next_neighbour(6, 6),
-    )?;
-    show(
-        rt,
-        b"circle of all neighbour records, every cell",
-        all_neighbours(1),
-    )?;
-    show(
-        rt,
-        b"chain of all neighbour records, every cell",
-        all_neighbours(0),
-    )?;
-    show(
-        rt,
-        b"neighbour chain of two cells",
-        base.with_first_neighbour(1, 1),
-    )
-}
-
-fn lowest(rt: &impl Print) -> io::Result<()> {
-    let base = row();
-    show(
-        rt,
-        b"face chains broken at cells 1 and 3",
-        base.with_next_face(4, 10).with_first_face(3, 10),
-    )?;
-    show(
-        rt,
-        b"neighbour chain broken at cell 1, face chain at cell 2",
-        base.with_cell(2, 4).with_face(5, 6),
-    )?;
-    show(
-        rt,
-        b"face chain broken at cell 1, neighbour chain at cell 2",
-        base.with_face(3, 6).with_cell(4, 4),
-    )?;
-    show(
-        rt,
-        b"both chains broken at cell 2",
-        base.with_face(5, 6).with_cell(4, 4),
-    )?;
-    show(
-        rt,
-        b"bad face at face 4, broken chain at cell 0",
-        base.with_owner(4, 4).with_first_face(0, 10),
-    )?;
-    show(
-        rt,
-        b"unknown code at face 5, broken chain at cell 0",
-        base.with_code(5, 3).with_first_neighbour(0, 7),
-    )
-}
-
-pub(crate) fn all(rt: &impl Print) -> io::Result<()> {
-    show(rt, b"four cells and six faces", row())?;
-    first_faces(rt)?;
-    next_faces(rt)?;
-    named_faces(rt)?;
-    face_circles(rt)?;
-    first_neighbours(rt)?;
-    next_neighbours(rt)?;
-    named_cells(rt)?;
-    neighbour_circles(rt)?;
-    lowest(rt)
+pub(crate) fn all(rt: &impl Print, row: &Case) -> io::Result<()> {
+    run(rt, row, FACE_RECORDS)?;
+    run(rt, row, FACE_CIRCLES)?;
+    run(rt, &row.with(FACE_CHAIN)?, FACE_CHAINS)?;
+    run(rt, row, NEIGHBOUR_RECORDS)?;
+    run(rt, &row.with(NEIGHBOUR_CHAIN)?, NEIGHBOUR_CHAINS)?;
+    run(rt, row, LOWEST)
 }

@@ -1,124 +1,83 @@
 // The limits of the counts, each slice as long as its count says, and a chain of the most records.
-ghost use Rattle.std.specs.Prelude.{◌≤◌};
-
-use crate::{float_part, part, print};
-use mesh::{Answer, Counts};
+use crate::case::Case;
+use crate::tell;
+use mesh::Counts;
+use std::alloc::{AllocError, Global};
 use std::io;
 
-// The check of so many cells, faces, face records and neighbour records, in zeros: every face has
-// the owner 0 and no neighbour, and every chain is empty.
-fn checked(
-    numbers: &[usize],
-    floats: &[f64],
-    cells: usize,
-    faces: usize,
-    facings: usize,
-    borderings: usize,
-) -> Answer
-    requires { (cells ≤ 65536) × (faces ≤ 65536) × (facings ≤ 65536) × (borderings ≤ 65536) }
-{
-    let counts = Counts {
-        mesh: 7,
-        dimension: 3,
-        cells,
-        faces,
-        facings,
-        borderings,
-    };
-    mesh::check(
-        counts,
-        part(numbers, 2 * faces),
-        float_part(floats, 9 * faces),
-        part(numbers, 2 * cells),
-        float_part(floats, 4 * cells),
-        part(numbers, 2 * facings),
-        part(numbers, 2 * borderings),
-        7,
-        part(numbers, 2 * faces),
-        float_part(floats, 4 * faces),
-    )
+// So many cells, faces, face records and neighbour records.
+const COUNTS: &[(&str, [u32; 4])] = &[
+    ("no cell", [0, 0, 0, 0]),
+    ("no cell but a face", [0, 1, 0, 0]),
+    ("one cell with no face", [1, 0, 0, 0]),
+    ("65535 cells", [65535, 0, 0, 0]),
+    ("65536 cells", [65536, 0, 0, 0]),
+    ("65535 faces", [1, 65535, 0, 0]),
+    ("65536 faces", [1, 65536, 0, 0]),
+    ("65535 face records", [1, 0, 65535, 0]),
+    ("65536 face records", [1, 0, 65536, 0]),
+    ("65535 neighbour records", [1, 0, 0, 65535]),
+    ("65536 neighbour records", [1, 0, 0, 65536]),
+    ("65535 of each", [65535, 65535, 65535, 65535]),
+];
+
+// Where the last face record of a chain of 65,535 leads.
+const ENDS: &[(&str, usize)] = &[
+    ("chain of 65535 face records", 0),
+    ("circle of 65535 face records", 1),
+    ("chain of 65535 face records and a missing one", 65536),
+];
+
+// A mesh of these counts in zeros: every face has the owner 0 and no neighbour, and every chain is empty.
+fn zeros(alloc: Global, counts: [u32; 4]) -> Result<Case, AllocError> {
+    let [cells, faces, facings, borderings] = counts;
+    let (cells, faces) = (cells as usize, faces as usize);
+    let (facings, borderings) = (facings as usize, borderings as usize);
+    Ok(Case {
+        counts: Counts {
+            mesh: 7,
+            dimension: 3,
+            cells,
+            faces,
+            facings,
+            borderings,
+        },
+        adjacency: vec![in alloc; 0; 2 * faces]?,
+        geometry: vec![in alloc; 0.0; 9 * faces]?,
+        heads: vec![in alloc; 0; 2 * cells]?,
+        places: vec![in alloc; 0.0; 4 * cells]?,
+        facing: vec![in alloc; 0; 2 * facings]?,
+        bordering: vec![in alloc; 0; 2 * borderings]?,
+        number: 7,
+        codes: vec![in alloc; 0; 2 * faces]?,
+        values: vec![in alloc; 0.0; 4 * faces]?,
+    })
 }
 
-fn cells(rt: &impl Print, n: &[usize; 131072], x: &[f64; 589824]) -> io::Result<()> {
-    print(rt, b"no cell", checked(n, x, 0, 0, 0, 0))?;
-    print(rt, b"no cell but a face", checked(n, x, 0, 1, 0, 0))?;
-    print(rt, b"one cell with no face", checked(n, x, 1, 0, 0, 0))?;
-    print(rt, b"65535 cells", checked(n, x, 65535, 0, 0, 0))?;
-    print(rt, b"65536 cells", checked(n, x, 65536, 0, 0, 0))
-}
-
-fn others(rt: &impl Print, n: &[usize; 131072], x: &[f64; 589824]) -> io::Result<()> {
-    print(rt, b"65535 faces", checked(n, x, 1, 65535, 0, 0))?;
-    print(rt, b"65536 faces", checked(n, x, 1, 65536, 0, 0))?;
-    print(rt, b"65535 face records", checked(n, x, 1, 0, 65535, 0))?;
-    print(rt, b"65536 face records", checked(n, x, 1, 0, 65536, 0))?;
-    print(
-        rt,
-        b"65535 neighbour records",
-        checked(n, x, 1, 0, 0, 65535),
-    )?;
-    print(
-        rt,
-        b"65536 neighbour records",
-        checked(n, x, 1, 0, 0, 65536),
-    )?;
-    print(
-        rt,
-        b"65535 of each",
-        checked(n, x, 65535, 65535, 65535, 65535),
-    )
-}
-
-pub(crate) fn counts(rt: &impl Print) -> io::Result<()> {
-    let numbers = [0; 131072];
-    let floats = [0.0; 589824];
-    cells(rt, &numbers, &floats)?;
-    others(rt, &numbers, &floats)
-}
-
-// Chains each record but the last to the next.
-fn chain(records: &mut [usize; 131070]) {
-    let mut r = 1;
-    while r < 65535 {
-        records[2 * r - 1] = r + 1;
-        r += 1;
+pub(crate) fn counts<R: Print + AllocGlobal>(rt: &R) -> io::Result<()> {
+    for (name, counts) in COUNTS {
+        tell(rt, name, zeros(rt.alloc(), *counts)?.check())?;
     }
+    Ok(())
 }
 
-// The check of a cell with a face, whose chain of faces starts at record 1.
-fn chained(facing: &[usize; 131070]) -> Answer {
-    let counts = Counts {
-        mesh: 7,
-        dimension: 3,
-        cells: 1,
-        faces: 1,
-        facings: 65535,
-        borderings: 0,
-    };
-    mesh::check(
-        counts,
-        &[0; 2],
-        &[0.0; 9],
-        &[1, 0],
-        &[0.0; 4],
-        facing,
-        &[0; 0],
-        7,
-        &[0; 2],
-        &[0.0; 4],
-    )
+// The records of face 0, each but the last chained to the next.
+fn chain(alloc: Global, end: usize) -> Result<Vec<usize>, AllocError> {
+    let mut records = Vec::new(alloc);
+    for next in 2..=65535 {
+        records.extend_from_slice(&[0, next])?;
+    }
+    records.extend_from_slice(&[0, end])?;
+    Ok(records)
 }
 
-pub(crate) fn chains(rt: &impl Print) -> io::Result<()> {
-    let mut records = [0; 131070];
-    chain(&mut records);
-    print(rt, b"chain of 65535 face records", chained(&records))?;
-    records[131069] = 1;
-    print(rt, b"circle of 65535 face records", chained(&records))?;
-    records[131069] = 65536;
-    print(
-        rt,
-        b"chain of 65535 face records and a missing one",
-        chained(&records),
-    )
+// A cell with a face, whose chain of faces starts at record 1.
+pub(crate) fn chains<R: Print + AllocGlobal>(rt: &R) -> io::Result<()> {
+    for (name, end) in ENDS {
+        let mut case = zeros(rt.alloc(), [1, 1, 65535, 0])?;
+        case.heads = vec![in rt.alloc(); 1, 0]?;
+        case.facing = chain(rt.alloc(), *end)?;
+        tell(rt, name, case.check())?;
+    }
+    Ok(())
 }

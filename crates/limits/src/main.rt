@@ -1,64 +1,54 @@
-// The refusals 1 to 6 of `mesh::check` at their limits. Writes a line for each case: its name, a colon, and
-// the answer. The lines in the crate's file `stdout` were written by hand from documents 01 and 02; none was
-// taken from a run. A small case starts from an accepted mesh, and changes only what its name says.
+// The refusals 1 to 6 of `mesh::Mesh::check` at their limits. Writes a line for each case: its name, a colon,
+// and the answer. The lines in the crate's file `stdout` were written by hand from documents 01 and 02; none
+// was taken from a run. A small case starts from an accepted mesh, and changes only what its name says.
 #![tactic(auto)]
 
-ghost use Rattle.std.specs.Prelude.{◌≡◌, take};
-
-use lent::Lent;
+use case::Case;
+use change::Change;
 use mesh::Answer;
-use std::io;
+use std::{fmt, io};
 
+mod case;
 mod chains;
+mod change;
 mod faces;
 mod large;
-mod lent;
 mod links;
 mod shape;
 
-// The first n numbers of a slice, or all where it has no more.
-fn part(s: &[usize], n: usize) -> &[usize]
-    ensures { result.now ≡ take n s.now }
-{
-    if n <= s.len() {
-        return &s[..n];
-    }
-    s
-}
+// An answer as the lines give it.
+#[derive(Clone, Copy)]
+struct Told(Answer);
 
-fn float_part(s: &[f64], n: usize) -> &[f64]
-    ensures { result.now ≡ take n s.now }
-{
-    if n <= s.len() {
-        return &s[..n];
+impl fmt::Display for Told {
+    fn fmt<W: fmt::Write>(&self, f: &mut fmt::Formatter<W>) -> fmt::Result {
+        match self.0 {
+            Ok(()) => f.write_str("accepted"),
+            Err(refusal) => write!(f, "{refusal}"),
+        }
     }
-    s
 }
 
 // Writes a case's line.
-fn print(rt: &impl Print, name: &[u8], answer: Answer) -> io::Result<()> {
-    pattern::print::text(rt, name)?;
-    match answer {
-        Answer::Accepted => pattern::print::text(rt, b": accepted")?,
-        Answer::Refused(number, index) => {
-            pattern::print::text(rt, b": ")?;
-            pattern::print::refusal(rt, number, index)?;
-        }
-    }
-    pattern::print::text(rt, b"\n")
+fn tell(rt: &impl Print, name: &str, answer: Answer) -> io::Result<()> {
+    println!(rt; "{name}: {}", Told(answer))
 }
 
-fn show(rt: &impl Print, name: &[u8], lent: Lent) -> io::Result<()> {
-    print(rt, name, lent.checked())
+// Writes the line of each case: its name, and the changes that it makes to the base.
+fn run(rt: &impl Print, base: &Case, cases: &[(&str, &[Change])]) -> io::Result<()> {
+    for (name, changes) in cases {
+        tell(rt, name, base.with(changes)?.check())?;
+    }
+    Ok(())
 }
 
 fn main(rt: HostRuntime) -> io::Result<()> {
+    let pair = case::pair(rt.alloc())?;
+    let row = case::row(rt.alloc())?;
     large::counts(&rt)?;
-    shape::dimensions(&rt)?;
-    shape::lengths(&rt)?;
-    shape::numbers(&rt)?;
-    faces::all(&rt)?;
-    chains::all(&rt)?;
+    shape::all(&rt, &pair)?;
+    faces::all(&rt, &pair, &row)?;
+    chains::all(&rt, &row)?;
     large::chains(&rt)?;
-    links::all(&rt)
+    run(&rt, &row, links::CASES)
 }

@@ -1,100 +1,92 @@
-// The refusals of shape on a small mesh: the dimension, the slices' lengths and the mesh numbers.
-ghost use Rattle.std.specs.Prelude.{◌≤◌, ◌<◌};
-
-use crate::lent::pair;
-use crate::{lent, show};
+// The refusals of shape on two cells and three faces: the dimension, the slices' lengths and the mesh numbers.
+use crate::case::Case;
+use crate::change::Change::{self, Dimension, FirstFace, Length, Mesh, Number, Owner, Peer};
+use crate::change::Part::{Adjacency, Bordering, Codes, Facing, Geometry, Heads, Places, Values};
+use crate::run;
 use std::io;
 
-pub(crate) fn dimensions(rt: &impl Print) -> io::Result<()> {
-    let base = pair();
-    show(rt, b"dimension 0", base.with_dimension(0))?;
-    show(rt, b"dimension 1", base.with_dimension(1))?;
-    show(rt, b"dimension 2", base.with_dimension(2))?;
-    show(rt, b"dimension 3", base.with_dimension(3))?;
-    show(rt, b"dimension 4", base.with_dimension(4))?;
-    show(
-        rt,
-        b"dimension the largest number",
-        base.with_dimension(usize::MAX),
-    )?;
-    show(
-        rt,
-        b"dimension 4 and a slice one short",
-        base.with_dimension(4).with_length(lent::HEADS, 3),
-    )
-}
+const DIMENSIONS: &[(&str, &[Change])] = &[
+    ("dimension 0", &[Dimension(0)]),
+    ("dimension 1", &[Dimension(1)]),
+    ("dimension 2", &[Dimension(2)]),
+    ("dimension 3", &[Dimension(3)]),
+    ("dimension 4", &[Dimension(4)]),
+    ("dimension the largest number", &[Dimension(usize::MAX)]),
+    (
+        "dimension 4 and a slice one short",
+        &[Dimension(4), Length(Heads, 3)],
+    ),
+];
 
-fn length_case(
-    rt: &impl Print,
-    name: &[u8],
-    change: &[u8],
-    slice: usize,
-    n: usize,
-) -> io::Result<()>
-    requires { slice < 8 }
-{
-    pattern::print::text(rt, name)?;
-    show(rt, change, pair().with_length(slice, n))
-}
+const LENGTHS: &[(&str, &[Change])] = &[
+    ("adjacency one short", &[Length(Adjacency, 5)]),
+    ("adjacency one long", &[Length(Adjacency, 7)]),
+    ("adjacency a record short", &[Length(Adjacency, 4)]),
+    ("adjacency a record long", &[Length(Adjacency, 8)]),
+    ("geometry one short", &[Length(Geometry, 26)]),
+    ("geometry one long", &[Length(Geometry, 28)]),
+    ("geometry a record short", &[Length(Geometry, 18)]),
+    ("geometry a record long", &[Length(Geometry, 36)]),
+    ("heads one short", &[Length(Heads, 3)]),
+    ("heads one long", &[Length(Heads, 5)]),
+    ("heads a record short", &[Length(Heads, 2)]),
+    ("heads a record long", &[Length(Heads, 6)]),
+    ("places one short", &[Length(Places, 7)]),
+    ("places one long", &[Length(Places, 9)]),
+    ("places a record short", &[Length(Places, 4)]),
+    ("places a record long", &[Length(Places, 12)]),
+    ("face records one short", &[Length(Facing, 7)]),
+    ("face records one long", &[Length(Facing, 9)]),
+    ("face records a record short", &[Length(Facing, 6)]),
+    ("face records a record long", &[Length(Facing, 10)]),
+    ("neighbour records one short", &[Length(Bordering, 3)]),
+    ("neighbour records one long", &[Length(Bordering, 5)]),
+    ("neighbour records a record short", &[Length(Bordering, 2)]),
+    ("neighbour records a record long", &[Length(Bordering, 6)]),
+    ("codes one short", &[Length(Codes, 5)]),
+    ("codes one long", &[Length(Codes, 7)]),
+    ("codes a record short", &[Length(Codes, 4)]),
+    ("codes a record long", &[Length(Codes, 8)]),
+    ("values one short", &[Length(Values, 11)]),
+    ("values one long", &[Length(Values, 13)]),
+    ("values a record short", &[Length(Values, 8)]),
+    ("values a record long", &[Length(Values, 16)]),
+];
 
-// A slice of n numbers one number and one record too short, and too long.
-fn lengths_of(rt: &impl Print, name: &[u8], slice: usize, width: usize, n: usize) -> io::Result<()>
-    requires { (slice < 8) × (0 < width) × (width ≤ n) × (n < 100) }
-{
-    length_case(rt, name, b" one short", slice, n - 1)?;
-    length_case(rt, name, b" one long", slice, n + 1)?;
-    length_case(rt, name, b" a record short", slice, n - width)?;
-    length_case(rt, name, b" a record long", slice, n + width)
-}
+const NUMBERS: &[(&str, &[Change])] = &[
+    ("another mesh number", &[Number(8)]),
+    (
+        "a mesh number that differs in its high half",
+        &[Number(4294967303)],
+    ),
+    (
+        "the largest mesh number",
+        &[Mesh(u64::MAX), Number(u64::MAX)],
+    ),
+    (
+        "another mesh number and a slice one short",
+        &[Number(8), Length(Values, 11)],
+    ),
+    (
+        "another mesh number and dimension 4",
+        &[Number(8), Dimension(4)],
+    ),
+    (
+        "another mesh number and a bad face",
+        &[Number(8), Owner(0, 2)],
+    ),
+    (
+        "another mesh number and a broken chain",
+        &[Number(8), FirstFace(0, 5)],
+    ),
+    (
+        "another mesh number and a bad link",
+        &[Number(8), Peer(1, 2)],
+    ),
+];
 
-pub(crate) fn lengths(rt: &impl Print) -> io::Result<()> {
-    lengths_of(rt, b"adjacency", lent::ADJACENCY, 2, 6)?;
-    lengths_of(rt, b"geometry", lent::GEOMETRY, 9, 27)?;
-    lengths_of(rt, b"heads", lent::HEADS, 2, 4)?;
-    lengths_of(rt, b"places", lent::PLACES, 4, 8)?;
-    lengths_of(rt, b"face records", lent::FACING, 2, 8)?;
-    lengths_of(rt, b"neighbour records", lent::BORDERING, 2, 4)?;
-    lengths_of(rt, b"codes", lent::CODES, 2, 6)?;
-    lengths_of(rt, b"values", lent::VALUES, 4, 12)
-}
-
-pub(crate) fn numbers(rt: &impl Print) -> io::Result<()> {
-    let base = pair();
-    let other = base.with_number(8);
-    show(rt, b"another mesh number", other)?;
-    show(
-        rt,
-        b"a mesh number that differs in its high half",
-        base.with_number(4294967303),
-    )?;
-    show(
-        rt,
-        b"the largest mesh number",
-        base.with_mesh(u64::MAX).with_number(u64::MAX),
-    )?;
-    show(
-        rt,
-        b"another mesh number and a slice one short",
-        other.with_length(lent::VALUES, 11),
-    )?;
-    show(
-        rt,
-        b"another mesh number and dimension 4",
-        other.with_dimension(4),
-    )?;
-    show(
-        rt,
-        b"another mesh number and a bad face",
-        other.with_owner(0, 2),
-    )?;
-    show(
-        rt,
-        b"another mesh number and a broken chain",
-        other.with_first_face(0, 5),
-    )?;
-    show(
-        rt,
-        b"another mesh number and a bad link",
-        other.with_peer(1, 2),
-    )
+pub(crate) fn all(rt: &impl Print, pair: &Case) -> io::Result<()> {
+    run(rt, pair, DIMENSIONS)?;
+    run(rt, pair, LENGTHS)?;
+    run(rt, pair, NUMBERS)
 }

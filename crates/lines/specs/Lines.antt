@@ -10,7 +10,8 @@ whole_root (suc d) n = let r = 2 * whole_root d (n / 4) in cond (leb ((r + 1) * 
 abbrev pub quotient : ℕ → ℕ → ℕ
 quotient a b = (2 * a + b) / (2 * b)
 
--- The line near √y on interval i, as `line` of src/inner.rt writes it. It meets √y at Chebyshev's points of the interval, u and v, which are the middle ± 1/√8 of the length.
+-- The line near √y on interval i, as `line` of src/inner.rt writes it. It meets √y at Chebyshev's points of the interval,
+-- u and v, which are the middle ± 1/√8 of the length.
 -- So its slope is 1 / (√u + √v), and at the lower end, l, its height is (l + √(u * v)) / (√u + √v).
 -- A length is o / 128; l, the middle m and w, which is √(u * v), are counted in lengths * 2 ^ -42, and s, which is √u + √v, in 2 ^ -40.
 unfoldable pub line_of : ℕ → ℕ

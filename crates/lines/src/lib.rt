@@ -1,4 +1,4 @@
-// Lines that a square root is guessed from. They stand by themselves because 256 cases take long to check.
+// The lines that a square root is guessed from, with the formula that they are computed by.
 #![tactic(auto)]
 
 pub mod inner;

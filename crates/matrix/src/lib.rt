@@ -31,19 +31,27 @@ struct Lower {
     pub f: f64,
 }
 
-#[derive(Clone, Copy)]
-enum Pivot {
-    Unfit,
-    Root(f64),
-}
+// The unit vectors.
+const X: Vec3 = Vec3 {
+    x: 1.0,
+    y: 0.0,
+    z: 0.0,
+};
 
-#[derive(Clone, Copy)]
-pub enum Inversion {
-    Singular,
-    Inverse(Normal),
-}
+const Y: Vec3 = Vec3 {
+    x: 0.0,
+    y: 1.0,
+    z: 0.0,
+};
+
+const Z: Vec3 = Vec3 {
+    x: 0.0,
+    y: 0.0,
+    z: 1.0,
+};
 
 // n + a ⊗ b.
+#[tactic(auto, unfolding(crate::specs::Normal::outer))]
 pub fn add_outer(n: Normal, a: Vec3, b: Vec3) -> Normal
     ensures { result ≡ outer n a b }
 {
@@ -63,26 +71,21 @@ pub fn add_outer(n: Normal, a: Vec3, b: Vec3) -> Normal
 fn all_finite(n: Normal) -> bool
     ensures { result ≡ all_finite n }
 {
-    binary64::finite(n.xx)
-        & binary64::finite(n.xy)
-        & binary64::finite(n.xz)
-        & binary64::finite(n.yx)
-        & binary64::finite(n.yy)
-        & binary64::finite(n.yz)
-        & binary64::finite(n.zx)
-        & binary64::finite(n.zy)
-        & binary64::finite(n.zz)
+    [n.xx, n.xy, n.xz, n.yx, n.yy, n.yz, n.zx, n.zy, n.zz]
+        .iter()
+        .all(|x| binary64::finite(*x))
 }
 
-fn inverse_2d(n: Normal) -> Inversion
+#[tactic(auto, unfolding(crate::specs::Normal::inverse2))]
+fn inverse_2d(n: Normal) -> Option<Normal>
     ensures { result ≡ inverse2 n }
 {
     let determinant = n.xx * n.yy - n.xy * n.yx;
     let scale = binary64::max(binary64::max(binary64::abs(n.xx), binary64::abs(n.yy)), 1.0);
     if binary64::abs(determinant) <= binary64::EPSILON * scale * scale {
-        return Inversion::Singular;
+        return None;
     }
-    let whole = Normal {
+    Some(Normal {
         xx: n.yy / determinant,
         xy: -n.xy / determinant,
         xz: 0.0,
@@ -92,24 +95,25 @@ fn inverse_2d(n: Normal) -> Inversion
         zx: 0.0,
         zy: 0.0,
         zz: 0.0,
-    };
-    Inversion::Inverse(whole)
+    })
 }
 
 // The root of a pivot that is finite and above 64 EPS times the scale.
-fn pivot_root(value: f64, scale: f64) -> Pivot
+#[tactic(auto, unfolding(crate::specs::Normal::pivot))]
+fn pivot_root(value: f64, scale: f64) -> Option<f64>
     ensures { result ≡ pivot value scale }
 {
-    if binary64::finite(value) {
-        if value <= 64.0 * binary64::EPSILON * scale {
-            return Pivot::Unfit;
-        }
-        return Pivot::Root(binary64::sqrt(value));
+    if !binary64::finite(value) {
+        return None;
     }
-    Pivot::Unfit
+    if value <= 64.0 * binary64::EPSILON * scale {
+        return None;
+    }
+    Some(binary64::sqrt(value))
 }
 
 // The column x with (l lᵀ) x = e: forward and back.
+#[tactic(auto, unfolding(crate::specs::Normal::solve))]
 fn solve_column(l: Lower, e: Vec3) -> Vec3
     ensures { result ≡ solve l e }
 {
@@ -119,36 +123,16 @@ fn solve_column(l: Lower, e: Vec3) -> Vec3
     let z = r / l.f;
     let y = (q - l.e * z) / l.c;
     let x = (p - l.b * y - l.d * z) / l.a;
-    Vec3 { x: x, y: y, z: z }
+    Vec3 { x, y, z }
 }
 
+#[tactic(auto, unfolding(crate::specs::Normal::columns))]
 fn three_columns(l: Lower) -> Normal
     ensures { result ≡ columns l }
 {
-    let u = solve_column(
-        l,
-        Vec3 {
-            x: 1.0,
-            y: 0.0,
-            z: 0.0,
-        },
-    );
-    let v = solve_column(
-        l,
-        Vec3 {
-            x: 0.0,
-            y: 1.0,
-            z: 0.0,
-        },
-    );
-    let w = solve_column(
-        l,
-        Vec3 {
-            x: 0.0,
-            y: 0.0,
-            z: 1.0,
-        },
-    );
+    let u = solve_column(l, X);
+    let v = solve_column(l, Y);
+    let w = solve_column(l, Z);
     Normal {
         xx: u.x,
         xy: v.x,
@@ -163,59 +147,47 @@ fn three_columns(l: Lower) -> Normal
 }
 
 // Cholesky's factors, row by row, and the inverse from them.
-fn factored_inverse(n: Normal, scale: f64) -> Inversion
+#[tactic(auto, unfolding(crate::specs::Normal::factored, crate::specs::Normal::with_root, crate::specs::Normal::lower_factor))]
+fn factored_inverse(n: Normal, scale: f64) -> Option<Normal>
     ensures { result ≡ factored n scale }
 {
-    let first = pivot_root(n.xx, scale);
-    let Pivot::Root(a) = first else {
-        return Inversion::Singular;
-    };
+    let a = pivot_root(n.xx, scale)?;
     let b = n.yx / a;
-    let second = pivot_root(n.yy - b * b, scale);
-    let Pivot::Root(c) = second else {
-        return Inversion::Singular;
-    };
+    let c = pivot_root(n.yy - b * b, scale)?;
     let d = n.zx / a;
     let e = (n.zy - d * b) / c;
-    let third = pivot_root(n.zz - d * d - e * e, scale);
-    let Pivot::Root(f) = third else {
-        return Inversion::Singular;
-    };
-    let whole = three_columns(Lower {
-        a: a,
-        b: b,
-        c: c,
-        d: d,
-        e: e,
-        f: f,
-    });
-    Inversion::Inverse(whole)
+    let f = pivot_root(n.zz - d * d - e * e, scale)?;
+    Some(three_columns(Lower { a, b, c, d, e, f }))
 }
 
-fn inverse_3d(n: Normal) -> Inversion
+#[tactic(auto, unfolding(crate::specs::Normal::inverse3))]
+fn inverse_3d(n: Normal) -> Option<Normal>
     ensures { result ≡ inverse3 n }
 {
     let scale = binary64::max(
         binary64::max(binary64::abs(n.xx), binary64::abs(n.yy)),
         binary64::abs(n.zz),
     );
-    if binary64::finite(scale) {
-        if scale <= 0.0 {
-            return Inversion::Singular;
-        }
-        return factored_inverse(n, scale);
+    if !binary64::finite(scale) {
+        return None;
     }
-    Inversion::Singular
+    if scale <= 0.0 {
+        return None;
+    }
+    factored_inverse(n, scale)
 }
 
-pub fn inverse_normal_matrix(dimension: usize, n: Normal) -> Inversion
+// The inverse, by two dimensions or three; none where the matrix is singular or not finite.
+#[tactic(auto, unfolding(crate::specs::Normal::inverse))]
+pub fn inverse_normal_matrix(dimension: usize, n: Normal) -> Option<Normal>
     ensures { result ≡ inverse dimension n }
 {
-    if all_finite(n) {
-        if dimension == 2 {
-            return inverse_2d(n);
-        }
-        return inverse_3d(n);
+    if !all_finite(n) {
+        return None;
     }
-    Inversion::Singular
+    if dimension == 2 {
+        inverse_2d(n)
+    } else {
+        inverse_3d(n)
+    }
 }

@@ -1,4 +1,6 @@
 -- What the checks establish once they pass. Assumes nothing.
+use Rattle.refusal.specs.declared.Reason.TheVariants.{BadSize, WrongLength, OtherMesh}
+use Rattle.std.specs.Prelude.{Option, None, Some, Ok, Err}
 use mathlib.Core.Path.{◌≡◌, refl, sym, ap}
 use mathlib.Core.Logic.{inl, inr}
 use mathlib.Core.List.{List, [], ◌∷◌}
@@ -9,50 +11,48 @@ use native.Mathlib.Omega.{arith}
 use lib.Dec.{eqb, leb, ltb}
 use lib.ListN.{length, get_or}
 use borrow.Author.Tests.{eqb-true, eqb-false, ltb-true, ltb-false, leb-true, leb-false, not-false}
-use Rattle.mesh.specs.Answers.{or_else, first_of, pass, at, shape}
+use Rattle.refusal.specs.declared.Reason.{Reason}
+use Rattle.refusal.specs.declared.Refusal.{Refusal}
+use Rattle.mesh.specs.Answers.{or_else, first_of, pass, at, shape, Answer, accepted}
 use Rattle.mesh.specs.Checks.{size_tests, sizes_ok, bad_face, lowest_bad_face, unknown_code, lowest_unknown_code, bad_link, lowest_bad_link}
 use Rattle.chain.specs.Chains.{ends, head_at, cell_count, broken_cell, lowest_broken}
 use Rattle.mesh.specs.Records.{owner_at, neighbour_at, peer_at}
 use Rattle.mesh.specs.Facts.{Small, FacesIn, CodesIn, ChainsIn, LinkOf, LinksIn}
 use Rattle.mesh.specs.declared.Counts.{Counts}
-use Rattle.mesh.specs.declared.Answer.{Answer}
-use Rattle.mesh.specs.declared.Answer.TheVariants.{Accepted, Refused}
-use Rattle.chain.specs.declared.Found.{Found}
-use Rattle.chain.specs.declared.Found.TheVariants.{Nothing, At}
-use Rattle.chain.specs.declared.walk.Form.{Form}
+use Rattle.chain.specs.declared.Form.{Form}
 use Rattle.chain.proofs.Truth.{every_at, none_at}
 use Rattle.chain.proofs.Search.{none_below}
 
 -- ---- answers
-pub both_accepted : (a b : Answer) → or_else a b ≡ Accepted → (a ≡ Accepted) × (b ≡ Accepted)
+pub both_accepted : (a b : Answer) → or_else a b ≡ accepted → (a ≡ accepted) × (b ≡ accepted)
 unfolding or_else
-both_accepted Accepted b h = (refl, h)
-both_accepted (Refused k i) b h = (h, cc)
+both_accepted (Ok u) b h = (refl, h)
+both_accepted (Err e) b h = (h, cc)
 
-pub passed : (k : ℕ) (t : Bool) → pass k t ≡ Accepted → t ≡ true
+pub passed : (k : Reason) (t : Bool) → pass k t ≡ accepted → t ≡ true
 unfolding pass
 passed k true h = refl
 passed k false h = cc
 
-pub nothing_at : (k : ℕ) (f : Found) → at k f ≡ Accepted → f ≡ Nothing
+pub nothing_at : (k : Reason) (f : Option ℕ) → at k f ≡ accepted → f ≡ None
 unfolding at
-nothing_at k Nothing h = refl
-nothing_at k (At i) h = cc
+nothing_at k None h = refl
+nothing_at k (Some i) h = cc
 
 -- where a list of checks passes, each of them does
-pub all_accepted : (l : List Answer) → first_of l ≡ Accepted → (k : ℕ) → get_or l k Accepted ≡ Accepted
+pub all_accepted : (l : List Answer) → first_of l ≡ accepted → (k : ℕ) → get_or l k accepted ≡ accepted
 unfolding first_of
 all_accepted [] h k = refl
 all_accepted (a ∷ l) h zero = (both_accepted a (first_of l) h).0
 all_accepted (a ∷ l) h (suc k) = all_accepted l (both_accepted a (first_of l) h).1 k
 
-pub shape_accepted : (counts lengths numbers : Bool) → shape counts lengths numbers ≡ Accepted → (counts ≡ true) × (lengths ≡ true) × (numbers ≡ true)
+pub shape_accepted : (counts lengths numbers : Bool) → shape counts lengths numbers ≡ accepted → (counts ≡ true) × (lengths ≡ true) × (numbers ≡ true)
 unfolding shape first_of
 shape_accepted counts lengths numbers h =
-    let one = both_accepted (pass 1 counts) _ h in
-    let two = both_accepted (pass 2 lengths) _ one.1 in
-    let three = both_accepted (pass 3 numbers) Accepted two.1 in
-    (passed 1 counts one.0, passed 2 lengths two.0, passed 3 numbers three.0)
+    let one = both_accepted (pass BadSize counts) _ h in
+    let two = both_accepted (pass WrongLength lengths) _ one.1 in
+    let three = both_accepted (pass OtherMesh numbers) accepted two.1 in
+    (passed BadSize counts one.0, passed WrongLength lengths two.0, passed OtherMesh numbers three.0)
 
 -- ---- each check
 pub small : (n : Counts) → sizes_ok n ≡ true → Small n
@@ -60,7 +60,7 @@ small n h =
     let w = every_at (size_tests n) h in
     record { some = ltb-true _ _ (w 0); cells = leb-true _ _ (w 1); faces = leb-true _ _ (w 2); facings = leb-true _ _ (w 3); borderings = leb-true _ _ (w 4) }
 
-pub faces_in : (cells : ℕ) (adjacency : List ℕ) → lowest_bad_face cells adjacency ≡ Nothing → FacesIn cells adjacency
+pub faces_in : (cells : ℕ) (adjacency : List ℕ) → lowest_bad_face cells adjacency ≡ None → FacesIn cells adjacency
 faces_in cells adjacency h f l =
     let owner = owner_at adjacency f in
     let neighbour = neighbour_at adjacency f in
@@ -69,10 +69,10 @@ faces_in cells adjacency h f l =
     (none_below (bad_face cells adjacency) (length adjacency / 2) f h l) in
     record { owner = leb-false _ _ (w 0); neighbour = ltb-false _ _ (w 1); apart = eqb-false _ _ (w 2) }
 
-pub codes_in : (codes : List ℕ) → lowest_unknown_code codes ≡ Nothing → CodesIn codes
+pub codes_in : (codes : List ℕ) → lowest_unknown_code codes ≡ None → CodesIn codes
 codes_in codes h f l = ltb-false _ _ (none_below (unknown_code codes) (length codes / 2) f h l)
 
-pub chains_in : (limit : ℕ) (records : List ℕ) (form : Form) (heads : List ℕ) → lowest_broken limit records form heads ≡ Nothing → ChainsIn limit records form heads
+pub chains_in : (limit : ℕ) (records : List ℕ) (form : Form) (heads : List ℕ) → lowest_broken limit records form heads ≡ None → ChainsIn limit records form heads
 unfolding broken_cell
 chains_in limit records form heads h c l =
     let e = none_below (broken_cell limit records form heads) (cell_count form heads) c h l in
@@ -84,7 +84,7 @@ link_tests peer faces true m r ez em nz h = absurd (nz (eqb-true peer 0 (sym ez)
 link_tests peer faces false true r ez em nz h = let z : ◌≡◌ {A = ℕ} 0 1 = cc in absurd (omega arith)
 link_tests peer faces false false r ez em nz h = (ltb-false faces peer (sym em), h)
 
-pub links_in : (adjacency codes : List ℕ) → lowest_bad_link adjacency codes ≡ Nothing → LinksIn adjacency codes
+pub links_in : (adjacency codes : List ℕ) → lowest_bad_link adjacency codes ≡ None → LinksIn adjacency codes
 unfolding bad_link
 links_in adjacency codes h f l nz =
     let peer = peer_at codes f in
@@ -107,14 +107,23 @@ peer_below adjacency codes faces f e links =
       | inr p ↦ let q = (links (λ z. absurd (omega arith))).present in omega arith
     ]
 
--- nothing follows the last check
-pub or_accepted : (a : Answer) → or_else a Accepted ≡ a
+-- a check that refuses is the first refusal, and one that passes leaves it to what follows
+pub refuses : (a b : Answer) (e : Refusal) → a ≡ Err e → or_else a b ≡ Err e
 unfolding or_else
-or_accepted Accepted = refl
-or_accepted (Refused k i) = refl
+refuses a b e h = rw h
+
+pub goes_on : (a b : Answer) → a ≡ accepted → or_else a b ≡ b
+unfolding or_else
+goes_on a b h = rw h
+
+-- nothing follows the last check
+pub or_accepted : (a : Answer) → or_else a accepted ≡ a
+unfolding or_else
+or_accepted (Ok u) = refl
+or_accepted (Err e) = refl
 
 -- the checks of shape, and one after them, as a list
-pub shape_first : (a b c : Bool) (x : Answer) → first_of (pass 1 a ∷ pass 2 b ∷ pass 3 c ∷ x ∷ []) ≡ or_else (shape a b c) x
+pub shape_first : (a b c : Bool) (x : Answer) → first_of (pass BadSize a ∷ pass WrongLength b ∷ pass OtherMesh c ∷ x ∷ []) ≡ or_else (shape a b c) x
 unfolding shape first_of or_else pass
 shape_first false b c x = refl
 shape_first true false c x = refl
@@ -122,7 +131,7 @@ shape_first true true false x = refl
 shape_first true true true x = or_accepted x
 
 -- and two after them
-pub shape_both : (a b c : Bool) (x y : Answer) → first_of (pass 1 a ∷ pass 2 b ∷ pass 3 c ∷ x ∷ y ∷ []) ≡ or_else (shape a b c) (or_else x y)
+pub shape_both : (a b c : Bool) (x y : Answer) → first_of (pass BadSize a ∷ pass WrongLength b ∷ pass OtherMesh c ∷ x ∷ y ∷ []) ≡ or_else (shape a b c) (or_else x y)
 unfolding shape first_of or_else pass
 shape_both false b c x y = refl
 shape_both true false c x y = refl
@@ -130,7 +139,7 @@ shape_both true true false x y = refl
 shape_both true true true x y = ap (or_else x) (or_accepted y)
 
 -- the first two of them
-pub shape_two : (a b : Bool) → first_of (pass 1 a ∷ pass 2 b ∷ []) ≡ shape a b true
+pub shape_two : (a b : Bool) → first_of (pass BadSize a ∷ pass WrongLength b ∷ []) ≡ shape a b true
 unfolding shape first_of or_else pass
 shape_two false b = refl
 shape_two true false = refl

@@ -1,6 +1,6 @@
 -- Laws of passes, and what the checks establish.
 pub mod Filling
-pub mod Pass
+pub mod Items
 pub mod Values
 pub mod Facts
 pub mod Good

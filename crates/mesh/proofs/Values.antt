@@ -1,4 +1,6 @@
 -- The list of a pass's values, read at one item. Assumes nothing.
+use Rattle.mesh.specs.Answers.{Answer, Outcome, accepted}
+use Rattle.std.specs.Prelude.{Ok, Err}
 use mathlib.Core.Path.{◌≡◌, refl, sym, ap, ◌∙◌, subst}
 use mathlib.Core.Logic.{⊎_elim}
 use mathlib.Core.List.{[], ◌∷◌}
@@ -9,10 +11,6 @@ use lib.ListN.{length, get_or, length-append, get_or-append}
 use lib.Seq.{get_or_at}
 use lib.Ieee.{Float, nan}
 use Rattle.mesh.specs.Pass.{after, first_refusal, value_of, list_of, values_of}
-use Rattle.mesh.specs.declared.Answer.{Answer}
-use Rattle.mesh.specs.declared.Answer.TheVariants.{Accepted, Refused}
-use Rattle.mesh.specs.declared.Outcome.{Outcome}
-use Rattle.mesh.specs.declared.Outcome.TheVariants.{Value, Bad}
 
 pub length-list_of : (h : ℕ → Float) (n : ℕ) → length (list_of h n) ≡ n
 unfolding list_of
@@ -31,13 +29,13 @@ get_or-list_of h (suc n) i l =
     (eq-or-lt_of_le (le_of_suc-le-suc l))
 
 -- ---- an accepted pass has a value at each item
-step_accepted : (a : Answer) (s : Outcome) (i : ℕ) → after a s i ≡ Accepted → (a ≡ Accepted) × ((v : Float) × (s ≡ Value v))
+step_accepted : (a : Answer) (s : Outcome) (i : ℕ) → after a s i ≡ accepted → (a ≡ accepted) × ((v : Float) × (s ≡ Ok v))
 unfolding after
-step_accepted (Refused k j) s i h = let w : ◌≡◌ {A = ℕ} 0 1 = cc in absurd (omega arith)
-step_accepted Accepted (Value v) i h = (refl, (v, refl))
-step_accepted Accepted (Bad k) i h = let w : ◌≡◌ {A = ℕ} 0 1 = cc in absurd (omega arith)
+step_accepted (Err e) s i h = let w : ◌≡◌ {A = ℕ} 0 1 = cc in absurd (omega arith)
+step_accepted (Ok u) (Ok v) i h = (refl, (v, refl))
+step_accepted (Ok u) (Err k) i h = let w : ◌≡◌ {A = ℕ} 0 1 = cc in absurd (omega arith)
 
-value_below : (g : ℕ → Outcome) (n i : ℕ) → first_refusal g n ≡ Accepted → i < n → (v : Float) × (g i ≡ Value v)
+value_below : (g : ℕ → Outcome) (n i : ℕ) → first_refusal g n ≡ accepted → i < n → (v : Float) × (g i ≡ Ok v)
 unfolding first_refusal
 value_below g zero i h l = absurd (omega arith)
 value_below g (suc n) i h l =
@@ -45,7 +43,7 @@ value_below g (suc n) i h l =
     ⊎_elim (λ (e : i ≡ n). (w.1.0, ap g e ∙ w.1.1)) (λ (k : i < n). value_below g n i w.0 k) (eq-or-lt_of_le (le_of_suc-le-suc l))
 
 -- the value of item i, which stands in the list
-pub value_at : (g : ℕ → Outcome) (n i : ℕ) → first_refusal g n ≡ Accepted → i < n → (v : Float) × (g i ≡ Value v) × (get_or (values_of g n) i nan ≡ v)
+pub value_at : (g : ℕ → Outcome) (n i : ℕ) → first_refusal g n ≡ accepted → i < n → (v : Float) × (g i ≡ Ok v) × (get_or (values_of g n) i nan ≡ v)
 unfolding value_of
 value_at g n i h l =
     let w = value_below g n i h l in

@@ -1,9 +1,8 @@
 -- The checks 1, 4 and 6 of docs/REFUSALS.md. Definitions only.
-use Rattle.std.specs.Prelude.{List, [], ◌∷◌, Bool, true, false, not, ◌||◌, cond, ℕ, ◌+◌, ◌-◌, ◌/◌, eqb, leb, ltb, length}
+use Rattle.std.specs.Prelude.{List, [], ◌∷◌, Bool, true, false, not, ◌||◌, cond, ℕ, ◌+◌, ◌-◌, ◌/◌, eqb, leb, ltb, length, Option}
 use Rattle.chain.specs.Search.{every_of, some_of, lowest_where}
 use Rattle.mesh.specs.Records.{owner_at, neighbour_at, code_at, peer_at}
 use Rattle.mesh.specs.declared.Counts.{Counts}
-use Rattle.chain.specs.declared.Found.{Found}
 
 -- the most that a mesh may have of cells, of faces or of records of a chain
 abbrev pub largest_count : ℕ
@@ -30,14 +29,14 @@ bad_face cells adjacency f =
     let neighbour = neighbour_at adjacency f in
     some_of (leb cells owner ∷ ltb cells neighbour ∷ eqb neighbour (owner + 1) ∷ [])
 
-abbrev pub lowest_bad_face : ℕ → List ℕ → Found
+abbrev pub lowest_bad_face : ℕ → List ℕ → Option ℕ
 lowest_bad_face cells adjacency = lowest_where (bad_face cells adjacency) (length adjacency / 2)
 
 -- 4: the condition code is not 0, 1 or 2
 abbrev pub unknown_code : List ℕ → ℕ → Bool
 unknown_code codes f = ltb 2 (code_at codes f)
 
-abbrev pub lowest_unknown_code : List ℕ → Found
+abbrev pub lowest_unknown_code : List ℕ → Option ℕ
 lowest_unknown_code codes = lowest_where (unknown_code codes) (length codes / 2)
 
 -- 6: a link stands on a two-cell face, or its peer is missing, itself, or not linked back
@@ -49,5 +48,5 @@ bad_link adjacency codes f =
     let back = eqb (peer_at codes (peer - 1)) (f + 1) in
     cond (eqb peer 0) false (cond (ltb (length codes / 2) peer) true (some_of (two_cells ∷ itself ∷ not back ∷ [])))
 
-abbrev pub lowest_bad_link : List ℕ → List ℕ → Found
+abbrev pub lowest_bad_link : List ℕ → List ℕ → Option ℕ
 lowest_bad_link adjacency codes = lowest_where (bad_link adjacency codes) (length codes / 2)

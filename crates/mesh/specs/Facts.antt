@@ -4,7 +4,7 @@ use Rattle.chain.specs.Chains.{Chain, head_at, cell_count}
 use Rattle.mesh.specs.Checks.{largest_count}
 use Rattle.mesh.specs.Records.{owner_at, neighbour_at, code_at, peer_at}
 use Rattle.mesh.specs.declared.Counts.{Counts}
-use Rattle.chain.specs.declared.walk.Form.{Form}
+use Rattle.chain.specs.declared.Form.{Form}
 
 -- by check 1
 pub record Small (n : Counts) : Type 0 where

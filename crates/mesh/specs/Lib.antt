@@ -5,3 +5,4 @@ pub mod Pass
 pub mod Facts
 pub mod Mesh
 pub mod Lent
+pub mod Bundles

@@ -1,15 +1,14 @@
 -- A mesh and its conditions as they are lent, and the checks of them in the order of docs/REFUSALS.md. Definitions only.
-use Rattle.std.specs.Prelude.{◌≡◌, List, [], ◌∷◌, Bool, ◌&&◌, ℕ, ◌*◌, ◌<◌, eqb, length, Float}
-use Rattle.mesh.specs.Answers.{pass, at, first_of}
+use Rattle.refusal.specs.declared.Reason.TheVariants.{BadSize, WrongLength, OtherMesh, BadFace, BrokenChain, BadLink}
+use Rattle.std.specs.Prelude.{◌≡◌, List, [], ◌∷◌, Bool, ◌&&◌, ℕ, ◌*◌, ◌<◌, eqb, length, Float, Option}
+use Rattle.mesh.specs.Answers.{pass, at, first_of, Answer}
 use Rattle.chain.specs.Search.{every_of, lower}
 use Rattle.mesh.specs.Checks.{sizes_ok, lowest_bad_face, lowest_unknown_code, lowest_bad_link}
 use Rattle.chain.specs.Chains.{lowest_broken, Chain}
 use Rattle.mesh.specs.Facts.{Small, CellsOf, LinkOf}
 use Rattle.mesh.specs.Records.{peer_at, first_facing, first_bordering}
-use Rattle.mesh.specs.declared.Answer.{Answer}
 use Rattle.mesh.specs.declared.Counts.{Counts}
-use Rattle.chain.specs.declared.Found.{Found}
-use Rattle.chain.specs.declared.walk.Form.TheVariants.{First, Second}
+use Rattle.chain.specs.declared.Form.TheVariants.{First, Second}
 
 pub record Mesh : Type 0 where
   pub counts : Counts
@@ -61,31 +60,31 @@ abbrev pub conditions_sized : ℕ → List ℕ → List Float → Bool
 conditions_sized faces codes values = eqb (length codes) (2 * faces) && eqb (length values) (4 * faces)
 
 -- 4 and 6 of the adjacency with conditions and links: the lowest bad face, then the lowest badly linked one
-abbrev pub lowest_four : ℕ → List ℕ → List ℕ → Found
+abbrev pub lowest_four : ℕ → List ℕ → List ℕ → Option ℕ
 lowest_four cells adjacency codes = lower (lowest_bad_face cells adjacency) (lowest_unknown_code codes)
 
 unfoldable pub links : ℕ → List ℕ → List ℕ → Answer
-links cells adjacency codes = first_of (at 4 (lowest_four cells adjacency codes) ∷ at 6 (lowest_bad_link adjacency codes) ∷ [])
+links cells adjacency codes = first_of (at BadFace (lowest_four cells adjacency codes) ∷ at BadLink (lowest_bad_link adjacency codes) ∷ [])
 
 -- 4, 5 and 6 of a mesh with conditions and links: between the two the lowest cell with a broken chain
-abbrev pub lowest_five : Mesh → Found
+abbrev pub lowest_five : Mesh → Option ℕ
 lowest_five m = lower (lowest_broken m.counts.faces m.facing First m.heads) (lowest_broken m.counts.cells m.bordering Second m.heads)
 
 unfoldable pub topology : Mesh → List ℕ → Answer
 topology m codes =
     first_of
-    (at 4 (lowest_four m.counts.cells m.adjacency codes)
-    ∷ at 5 (lowest_five m)
-    ∷ at 6 (lowest_bad_link m.adjacency codes)
+    (at BadFace (lowest_four m.counts.cells m.adjacency codes)
+    ∷ at BrokenChain (lowest_five m)
+    ∷ at BadLink (lowest_bad_link m.adjacency codes)
     ∷ [])
 
 -- 1 to 6
 unfoldable pub checks : Mesh → Conditions → Answer
 checks m k =
     first_of
-    (pass 1 (sizes_ok m.counts)
-    ∷ pass 2 (mesh_sized m && conditions_sized m.counts.faces k.codes k.values)
-    ∷ pass 3 (eqb k.number m.counts.mesh)
+    (pass BadSize (sizes_ok m.counts)
+    ∷ pass WrongLength (mesh_sized m && conditions_sized m.counts.faces k.codes k.values)
+    ∷ pass OtherMesh (eqb k.number m.counts.mesh)
     ∷ topology m k.codes
     ∷ [])
 

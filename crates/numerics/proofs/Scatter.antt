@@ -9,7 +9,7 @@ use lib.Dec.{eqb, eqb-zero-suc, eqb-suc-zero, eqb-suc-suc}
 use lib.ListN.{length, get_or, set, length-set, replicate, length-replicate, get_or-replicate}
 use lib.Seq.{get_or-set_same, get_or-set_other}
 use lib.Ieee.{Float, nan, binary64, sub, neg}
-use Rattle.binary64.specs.Numbers.{zero64, ◌⊕◌, ◌⊖◌}
+use Rattle.binary64.specs.Numbers.{zero64, ◌⊕◌}
 use Rattle.binary64.specs.Units.{total}
 use Rattle.numerics.specs.Outflow.{Faces, faces_of, add_at, take_at, scatter_face, scatter, outflows, only, up_to, face_terms, terms, SumsItsTerms}
 
@@ -19,7 +19,8 @@ total-append s [] ys = refl
 total-append s (x ∷ xs) ys = total-append (s ⊕ x) xs ys
 
 -- ---- one store
-add_read : (l : List Float) (o : ℕ) (v : Float) (c : ℕ) → c < length l → get_or (add_at l o v) c nan ≡ total binary64 (get_or l c nan) (only (eqb o c) v)
+add_read : (l : List Float) (o : ℕ) (v : Float) (c : ℕ) → c < length l
+    → get_or (add_at l o v) c nan ≡ total binary64 (get_or l c nan) (only (eqb o c) v)
 unfolding total
 add_read l o v c h = go (eqb o c) refl
   where
@@ -27,12 +28,14 @@ add_read l o v c h = go (eqb o c) refl
     go true e = ap (λ (i : ℕ). get_or (add_at l i v) c nan) (eqb-true o c e) ∙ get_or-set_same l c (get_or l c nan ⊕ v) nan h
     go false e = get_or-set_other l o c (get_or l o nan ⊕ v) nan (λ (q : c ≡ o). eqb-false o c e (sym q))
 
-take_read : (l : List Float) (o : ℕ) (v : Float) (c : ℕ) → c < length l → get_or (take_at l o v) c nan ≡ total binary64 (get_or l c nan) (only (eqb o c) (neg v))
+take_read : (l : List Float) (o : ℕ) (v : Float) (c : ℕ) → c < length l
+    → get_or (take_at l o v) c nan ≡ total binary64 (get_or l c nan) (only (eqb o c) (neg v))
 unfolding sub
 take_read l o v c h = add_read l o (neg v) c h
 
 -- the neighbour n is stored as cell + 1
-next_read : (l : List Float) (n : ℕ) (v : Float) (c : ℕ) → c < length l → get_or (cond (eqb n 0) l (take_at l (n - 1) v)) c nan ≡ total binary64 (get_or l c nan) (only (eqb n (suc c)) (neg v))
+next_read : (l : List Float) (n : ℕ) (v : Float) (c : ℕ) → c < length l
+    → get_or (cond (eqb n 0) l (take_at l (n - 1) v)) c nan ≡ total binary64 (get_or l c nan) (only (eqb n (suc c)) (neg v))
 unfolding total
 next_read l zero v c h = ap (λ (b : Bool). total binary64 (get_or l c nan) (only b (neg v))) (sym (eqb-zero-suc c))
 next_read l (suc n) v c h =
@@ -53,13 +56,7 @@ module _ (m : Faces) where
   pub length-scatter : (l : List Float) (k : ℕ) → length (scatter m l k) ≡ length l
   unfolding scatter scatter_face
   length-scatter l zero = refl
-  length-scatter l (suc k) =
-      let s = scatter m l k in
-      let v = m.flux k in
-      let a = add_at s (m.owner k) v in
-      length_next (eqb (m.neighbour k) 0) a (m.neighbour k - 1) (get_or a (m.neighbour k - 1) nan ⊖ v)
-      ∙ length-set s (m.owner k) (get_or s (m.owner k) nan ⊕ v)
-      ∙ length-scatter l k
+  length-scatter l (suc k) = length_next _ _ _ _ ∙ length-set _ _ _ ∙ length-scatter l k
 
   face_read : (l : List Float) (f c : ℕ) → c < length l → get_or (scatter_face m f l) c nan ≡ total binary64 (get_or l c nan) (face_terms m c f)
   unfolding scatter_face face_terms

@@ -1,16 +1,16 @@
 -- The gradient of a cell field from a lent stencil. Definitions only.
+use Rattle.refusal.specs.declared.Reason.TheVariants.{BadSize, WrongLength, OtherMesh, BrokenChain}
 use Rattle.std.specs.Prelude.{◌≡◌, List, [], ◌∷◌, Bool, ◌&&◌, cond, ℕ, ◌+◌, ◌-◌, ◌*◌, ◌<◌, eqb, leb, length, get_or, Float}
 use Rattle.std.specs.Float.{nan}
 use Rattle.binary64.specs.Numbers.{◌⊖◌}
-use Rattle.mesh.specs.Answers.{pass, at, first_of}
+use Rattle.mesh.specs.Answers.{pass, at, first_of, Answer}
 use Rattle.mesh.specs.Checks.{largest_count, sizes_ok}
 use Rattle.mesh.specs.Pass.{if_refused}
 use Rattle.chain.specs.Chains.{trail, lowest_broken, Chain}
 use Rattle.vector.specs.Vector.{vectors_of, vector_at, vec, zero3, dot, sum, scaled}
-use Rattle.mesh.specs.declared.Answer.{Answer}
 use Rattle.mesh.specs.declared.Counts.{Counts}
 use Rattle.vector.specs.declared.Vec3.{Vec3}
-use Rattle.chain.specs.declared.walk.Form.TheVariants.{Single}
+use Rattle.chain.specs.declared.Form.TheVariants.{Single}
 use Rattle.numerics.specs.Slices.{Slices, lengths_of, stencil_sized, from_self, from_value, from_cell, source_of}
 
 -- the other value of an equation, by its source
@@ -45,14 +45,15 @@ gradients s records field cells = vectors_of (gradient_at s records field) cells
 
 -- ---- the entry
 
--- 1, 2, 3 and 5 of what it is lent; `stencil` and `number` are the mesh numbers of the stencil and of the field, and `sized` says whether the output has its length
+-- the checks 1, 2, 3 and 5 of docs/REFUSALS.md; `stencil` and `number` are the mesh numbers of the stencil and of the field,
+-- and `sized` says whether the output has its length
 unfoldable pub lent_checks : Counts → ℕ → ℕ → Slices → ℕ → List Float → Bool → Answer
 lent_checks n stencil records s number field sized =
     first_of
-    (pass 1 (sizes_ok n && leb records largest_count)
-    ∷ pass 2 (stencil_sized n.cells records (lengths_of s) && eqb (length field) n.cells && sized)
-    ∷ pass 3 (eqb stencil n.mesh && eqb number n.mesh)
-    ∷ at 5 (lowest_broken (from_cell n.cells) s.equations Single s.starts)
+    (pass BadSize (sizes_ok n && leb records largest_count)
+    ∷ pass WrongLength (stencil_sized n.cells records (lengths_of s) && eqb (length field) n.cells && sized)
+    ∷ pass OtherMesh (eqb stencil n.mesh && eqb number n.mesh)
+    ∷ at BrokenChain (lowest_broken (from_cell n.cells) s.equations Single s.starts)
     ∷ [])
 
 -- for an output of so many numbers
@@ -60,7 +61,8 @@ abbrev pub gradient_checks : Counts → ℕ → ℕ → Slices → ℕ → List 
 gradient_checks n stencil records s number field outs = lent_checks n stencil records s number field (eqb outs (3 * n.cells))
 
 -- the answer, and what the output holds after the call: untouched where a check refuses
-pub record GradientCall (n : Counts) (stencil records : ℕ) (s : Slices) (number : ℕ) (field old : List Float) (r : Answer) (new : List Float) : Type 0 where
+pub record GradientCall (n : Counts) (stencil records : ℕ) (s : Slices) (number : ℕ) (field old : List Float)
+    (r : Answer) (new : List Float) : Type 0 where
   pub answer : r ≡ gradient_checks n stencil records s number field (length old)
   pub out : new ≡ if_refused r old (gradients s records field n.cells)
 

@@ -1,16 +1,16 @@
--- The outflow of each cell: a face's flux is added to its owner's and taken from its neighbour's, face by face from +0.0; and the terms of a cell. Definitions only.
+-- The outflow of each cell: a face's flux is added to its owner's and taken from its neighbour's, face by face from +0.0;
+-- and the terms of a cell. Definitions only.
+use Rattle.refusal.specs.declared.Reason.TheVariants.{BadSize, WrongLength, OtherMesh, BadFace}
 use Rattle.std.specs.Prelude.{◌≡◌, List, [], ◌∷◌, ◌++◌, Bool, ◌&&◌, cond, ℕ, zero, suc, ◌*◌, ◌-◌, ◌<◌, eqb, length, get_or, set, replicate, Float}
 use Rattle.std.specs.Float.{nan, binary64}
 use Rattle.std.specs.Float.Ieee.{neg}
 use Rattle.binary64.specs.Numbers.{zero64, ◌⊕◌, ◌⊖◌}
 use Rattle.binary64.specs.Units.{total}
-use Rattle.mesh.specs.Answers.{pass, at, first_of}
+use Rattle.mesh.specs.Answers.{pass, at, first_of, Answer, accepted}
 use Rattle.mesh.specs.Checks.{sizes_ok, lowest_bad_face}
 use Rattle.mesh.specs.Facts.{CellsOf}
 use Rattle.mesh.specs.Pass.{if_refused}
 use Rattle.mesh.specs.Records.{owner_at, neighbour_at}
-use Rattle.mesh.specs.declared.Answer.{Answer}
-use Rattle.mesh.specs.declared.Answer.TheVariants.{Accepted}
 use Rattle.mesh.specs.declared.Counts.{Counts}
 
 -- the faces as a sum over them reads them: of the face f its owner, its neighbour + 1 (0 for none), and its flux
@@ -71,14 +71,14 @@ SumsItsTerms cells adjacency flux outflow =
 
 -- ---- the entry
 
--- 1, 2, 3 and 4 of what it is lent
+-- the checks 1, 2, 3 and 4 of docs/REFUSALS.md
 unfoldable pub outflow_checks : Counts → List ℕ → ℕ → List Float → ℕ → Answer
 outflow_checks n adjacency number flux outs =
     first_of
-    (pass 1 (sizes_ok n)
-    ∷ pass 2 (eqb (length adjacency) (2 * n.faces) && eqb (length flux) n.faces && eqb outs n.cells)
-    ∷ pass 3 (eqb number n.mesh)
-    ∷ at 4 (lowest_bad_face n.cells adjacency)
+    (pass BadSize (sizes_ok n)
+    ∷ pass WrongLength (eqb (length adjacency) (2 * n.faces) && eqb (length flux) n.faces && eqb outs n.cells)
+    ∷ pass OtherMesh (eqb number n.mesh)
+    ∷ at BadFace (lowest_bad_face n.cells adjacency)
     ∷ [])
 
 -- the answer, and what the output holds after the call: untouched where a check refuses
@@ -88,7 +88,7 @@ pub record OutflowCall (n : Counts) (adjacency : List ℕ) (number : ℕ) (flux 
 
 -- what an accepted call leaves
 abbrev pub Scattered : Answer → ℕ → List ℕ → List Float → List Float → Type 0
-Scattered r cells adjacency flux outflow = r ≡ Accepted → SumsItsTerms cells adjacency flux outflow
+Scattered r cells adjacency flux outflow = r ≡ accepted → SumsItsTerms cells adjacency flux outflow
 
 -- what the checks establish
 pub record Flows (cells : ℕ) (adjacency : List ℕ) (flux : List Float) : Type 0 where

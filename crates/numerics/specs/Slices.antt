@@ -14,7 +14,7 @@ pub record Lengths : Type 0 where
 abbrev pub lengths : ℕ → ℕ → ℕ → ℕ → Lengths
 lengths s e w i = record { starts = s; equations = e; weights = w; inverses = i }
 
--- 2, of a stencil of so many cells and records
+-- check 2, of a stencil of so many cells and records
 abbrev pub stencil_sizes : ℕ → ℕ → Lengths → List Bool
 stencil_sizes cells records n =
     eqb n.starts cells ∷ eqb n.equations (2 * records) ∷ eqb n.weights (4 * records) ∷ eqb n.inverses (9 * cells) ∷ []
@@ -42,7 +42,8 @@ slices_before s e w i = slices s.entry.now e.entry.now w.entry.now i.entry.now
 abbrev pub slices_after : MutSlice ℕ → MutSlice ℕ → MutSlice Float → MutSlice Float → Slices
 slices_after s e w i = slices s.exit.now e.exit.now w.exit.now i.exit.now
 
--- where the other value of an equation comes from: the cell's own for a zero normal derivative, the equation's own, or that of the cell c
+-- where the other value of an equation comes from: the cell's own for a zero normal derivative, the equation's own, or that
+-- of the cell c
 abbrev pub from_self : ℕ
 from_self = 0
 

@@ -6,8 +6,9 @@ ghost use Rattle.numerics.specs.Slices.{lengths, stencil_sized, slices_before};
 ghost use Rattle.numerics.specs.Gradient.{lent_checks, GradientCall};
 ghost use Rattle.numerics.specs.Outflow.{outflow_checks, OutflowCall, Scattered};
 
-use chain::Found;
+use chain::Form;
 use mesh::{Answer, Counts};
+use refusal::Reason;
 
 pub mod inner;
 
@@ -29,6 +30,7 @@ pub fn stencil_sized(
 
 // The checks 1, 2, 3 and 5 of a lent stencil and a cell field; `sized` says whether the output has its
 // length.
+#[tactic(auto, using(mesh::proofs::Facts::refuses, mesh::proofs::Facts::goes_on, mesh::proofs::Facts::or_accepted), unfolding(mesh::specs::Answers::first_of, crate::specs::Gradient::lent_checks))]
 pub fn check_gradient(
     counts: Counts,
     stencil: u64,
@@ -44,33 +46,33 @@ pub fn check_gradient(
     ensures checked { let s = slices_before starts equations weights inverses in
         result ≡ lent_checks counts stencil records s number field.now sized }
 {
-    if !(mesh::sizes_ok(counts) & (records <= mesh::LARGEST_COUNT)) {
-        return Answer::Refused(1, 0);
-    }
-    if !(stencil_sized(
+    mesh::pass(
+        Reason::BadSize,
+        mesh::sizes_ok(counts) & (records <= mesh::LARGEST_COUNT),
+    )?;
+    let lent = stencil_sized(
         counts.cells,
         records,
         starts.len(),
         equations.len(),
         weights.len(),
         inverses.len(),
-    ) & (field.len() == counts.cells)
-        & sized)
-    {
-        return Answer::Refused(2, 0);
-    }
-    if !((stencil == counts.mesh) & (number == counts.mesh)) {
-        return Answer::Refused(3, 0);
-    }
-    let cell = chain::lowest_broken_equation(counts.cells + 2, starts, equations);
-    if let Found::At(c) = cell {
-        return Answer::Refused(5, c);
-    }
-    Answer::Accepted
+    );
+    mesh::pass(
+        Reason::WrongLength,
+        lent & (field.len() == counts.cells) & sized,
+    )?;
+    mesh::pass(
+        Reason::OtherMesh,
+        (stencil == counts.mesh) & (number == counts.mesh),
+    )?;
+    let cell = chain::lowest_broken(counts.cells + 2, equations, Form::Single, starts);
+    mesh::at(Reason::BrokenChain, cell)
 }
 
 // The gradient of a cell field from a stencil, three numbers a cell. `stencil` is the mesh number of
 // the stencil, and `number` that of the field.
+#[tactic(auto, using(crate::proofs::Slopes::slopes), unfolding(mesh::specs::Pass::if_refused))]
 pub fn least_squares_gradient(
     counts: Counts,
     stencil: u64,
@@ -86,7 +88,7 @@ pub fn least_squares_gradient(
     ensures call { let s = slices_before starts equations weights inverses in
         GradientCall counts stencil records s number field.now out.old result out.new }
 {
-    let a = check_gradient(
+    check_gradient(
         counts,
         stencil,
         records,
@@ -97,42 +99,30 @@ pub fn least_squares_gradient(
         number,
         field,
         mesh::is_sized(out.len(), 3, counts.cells),
+    )?;
+    inner::gradient::least_squares_gradient(
+        starts, equations, weights, inverses, records, field, out,
     );
-    match a {
-        Answer::Accepted => {
-            inner::gradient::least_squares_gradient(
-                starts, equations, weights, inverses, records, field, out,
-            );
-            Answer::Accepted
-        }
-        Answer::Refused(k, i) => Answer::Refused(k, i),
-    }
+    Ok(())
 }
 
+#[tactic(auto, using(mesh::proofs::Facts::refuses, mesh::proofs::Facts::goes_on, mesh::proofs::Facts::or_accepted), unfolding(mesh::specs::Answers::first_of, crate::specs::Outflow::outflow_checks))]
 fn check_flux(counts: Counts, adjacency: &[usize], number: u64, flux: &[f64], outs: usize) -> Answer
     ensures { result ≡ outflow_checks counts adjacency.now number flux.now outs }
 {
-    if !mesh::sizes_ok(counts) {
-        return Answer::Refused(1, 0);
-    }
-    if !(mesh::is_sized(adjacency.len(), 2, counts.faces)
+    let sized = mesh::is_sized(adjacency.len(), 2, counts.faces)
         & (flux.len() == counts.faces)
-        & (outs == counts.cells))
-    {
-        return Answer::Refused(2, 0);
-    }
-    if number != counts.mesh {
-        return Answer::Refused(3, 0);
-    }
+        & (outs == counts.cells);
+    mesh::pass(Reason::BadSize, mesh::sizes_ok(counts))?;
+    mesh::pass(Reason::WrongLength, sized)?;
+    mesh::pass(Reason::OtherMesh, number == counts.mesh)?;
     let face = mesh::lowest_bad_face(counts.cells, adjacency);
-    if let Found::At(f) = face {
-        return Answer::Refused(4, f);
-    }
-    Answer::Accepted
+    mesh::at(Reason::BadFace, face)
 }
 
 // Each face's flux added to its owner's outflow and taken from its neighbour's, in face order from
 // +0.0. `number` is the mesh number of the flux.
+#[tactic(auto, using(crate::proofs::Flows::flows, crate::proofs::Scatter::sums_its_terms), unfolding(mesh::specs::Pass::if_refused))]
 pub fn integrated_divergence(
     counts: Counts,
     adjacency: &[usize],
@@ -143,12 +133,7 @@ pub fn integrated_divergence(
     ensures call { OutflowCall counts adjacency.now number flux.now out.old result out.new }
     ensures terms { Scattered result counts.cells adjacency.now flux.now out.new }
 {
-    let a = check_flux(counts, adjacency, number, flux, out.len());
-    match a {
-        Answer::Accepted => {
-            inner::outflow::integrated_divergence(adjacency, flux, out);
-            Answer::Accepted
-        }
-        Answer::Refused(k, i) => Answer::Refused(k, i),
-    }
+    check_flux(counts, adjacency, number, flux, out.len())?;
+    inner::outflow::integrated_divergence(adjacency, flux, out);
+    Ok(())
 }

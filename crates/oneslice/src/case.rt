@@ -2,91 +2,106 @@
 // 0 joins cells 0 and 1; faces 1 and 2, to the left and to the right, are linked; faces 3 and 4 are below and
 // above cell 0, faces 5 and 6 below and above cell 1. Faces 3 and 6 have a fixed value, faces 4 and 5 zero
 // gradient.
-ghost use Rattle.std.specs.Prelude.{◌<◌};
+use crate::change::Part;
+use mesh::{Answer, Counts};
+use std::alloc::{AllocError, Global};
 
-use mesh::Counts;
-
-// The mesh numbers of conditions, coefficients, correction and flux; and the slices. The flux is lent with
-// its first `length` numbers.
-#[derive(Clone, Copy)]
+// The mesh and the slices, each with its mesh number beside it. The flux is the predicted flux before the
+// call, and the corrected flux after it.
+#[derive(Drop)]
 pub struct Case {
     pub counts: Counts,
-    pub number: u64,
-    pub coefficient: u64,
-    pub correction: u64,
-    pub prediction: u64,
     pub adjacency: [usize; 14],
+    pub conditions: u64,
     pub codes: [usize; 14],
-    pub values: [f64; 28],
+    pub coefficient: u64,
     pub coefficients: [f64; 7],
+    pub correction: u64,
     pub corrections: [f64; 2],
-    pub flux: [f64; 8],
-    pub length: usize,
+    pub prediction: u64,
+    pub flux: Vec<f64>,
 }
 
-fn counts() -> Counts {
-    Counts {
-        mesh: 7,
-        dimension: 2,
-        cells: 2,
-        faces: 7,
-        facings: 8,
-        borderings: 2,
-    }
-}
+// The number of the mesh.
+const MESH: u64 = 7;
 
 // The translations of faces 1 and 2, and the fixed values of faces 3 and 6.
-fn values() -> [f64; 28] {
-    let mut values = [0.0; 28];
-    values[5] = 2.0;
-    values[9] = -2.0;
-    values[12] = 4.0;
-    values[24] = 2.0;
-    values
-}
+const VALUES: [f64; 28] = [
+    0.0, 0.0, 0.0, 0.0, // face 0
+    0.0, 2.0, 0.0, 0.0, // face 1
+    0.0, -2.0, 0.0, 0.0, // face 2
+    4.0, 0.0, 0.0, 0.0, // face 3
+    0.0, 0.0, 0.0, 0.0, // face 4
+    0.0, 0.0, 0.0, 0.0, // face 5
+    2.0, 0.0, 0.0, 0.0, // face 6
+];
 
 // The case that is accepted.
-pub(crate) fn base() -> Case {
-    Case {
-        counts: counts(),
-        number: 7,
-        coefficient: 7,
-        correction: 7,
-        prediction: 7,
+pub(crate) fn base(alloc: Global) -> Result<Case, AllocError> {
+    Ok(Case {
+        counts: Counts {
+            mesh: MESH,
+            dimension: 2,
+            cells: 2,
+            faces: 7,
+            facings: 8,
+            borderings: 2,
+        },
         adjacency: [0, 2, 0, 0, 1, 0, 0, 0, 0, 0, 1, 0, 1, 0],
+        conditions: MESH,
         codes: [0, 0, 0, 3, 0, 2, 1, 0, 2, 0, 2, 0, 1, 0],
-        values: values(),
+        coefficient: MESH,
         coefficients: [0.5, 1.0, 1.0, 2.0, 0.0, 0.0, 0.7],
+        correction: MESH,
         corrections: [1.0, 3.0],
-        flux: [2.0, -1.0, 1.0, 0.0, 0.1, 0.2, -0.3, 1.0],
-        length: 7,
-    }
+        prediction: MESH,
+        flux: vec![in alloc; 2.0, -1.0, 1.0, 0.0, 0.1, 0.2, -0.3]?,
+    })
 }
 
 impl Case {
-    pub(crate) fn with_code(mut self, i: usize, n: usize) -> Case
-        requires { i < 14 }
-    {
-        self.codes[i] = n;
-        self
+    pub(crate) fn call(&mut self) -> Answer {
+        simple::correct_face_flux_in_place(
+            self.counts,
+            &self.adjacency,
+            self.conditions,
+            &self.codes,
+            &VALUES,
+            self.coefficient,
+            &self.coefficients,
+            self.correction,
+            &self.corrections,
+            self.prediction,
+            &mut self.flux,
+        )
     }
 
-    pub(crate) fn with_coefficient(mut self, i: usize, x: f64) -> Case
-        requires { i < 7 }
-    {
-        self.coefficients[i] = x;
-        self
+    // The slice of whole numbers, or of floats, that a part is.
+    pub(crate) fn whole_mut(&mut self, part: Part) -> Option<&mut [usize]> {
+        match part {
+            Part::Adjacency => Some(&mut self.adjacency),
+            Part::Codes => Some(&mut self.codes),
+            _ => None,
+        }
     }
 
-    pub(crate) fn with_flux(mut self, i: usize, x: f64) -> Case
-        requires { i < 8 }
-    {
-        self.flux[i] = x;
-        self
+    pub(crate) fn floats_mut(&mut self, part: Part) -> Option<&mut [f64]> {
+        match part {
+            Part::Coefficients => Some(&mut self.coefficients),
+            Part::Correction => Some(&mut self.corrections),
+            Part::Predicted => Some(&mut self.flux),
+            _ => None,
+        }
     }
 
-    pub(crate) fn with_length(mut self, n: usize) -> Case {
-        self.length = n;
-        self
+    // The mesh number beside a slice.
+    pub(crate) fn number_mut(&mut self, part: Part) -> &mut u64 {
+        match part {
+            Part::Adjacency => &mut self.counts.mesh,
+            Part::Codes => &mut self.conditions,
+            Part::Coefficients => &mut self.coefficient,
+            Part::Correction => &mut self.correction,
+            Part::Predicted => &mut self.prediction,
+        }
     }
 }

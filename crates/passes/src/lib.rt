@@ -2,91 +2,48 @@
 // one pass.
 #![tactic(auto)]
 
-ghost use Rattle.std.specs.Prelude.{◌≡◌, length, set};
-ghost use Rattle.mesh.specs.Pass.{handed_out};
-ghost use Rattle.passes.specs.Staged.{late_of, staged, is_early, is_late, early_number, late_after};
-ghost use Rattle.passes.specs.declared.Stage.TheVariants.{Late};
+ghost use Rattle.std.specs.Prelude.{◌≡◌, ◌<◌, ℕ, length, get_or, set};
+ghost use Rattle.std.specs.Float.{nan};
+ghost use Rattle.mesh.specs.Answers.{Outcome};
+ghost use Rattle.mesh.specs.Pass.{first_refusal, values_of, handed_out};
+ghost use Rattle.passes.specs.Staged.{Passes, staged, late_of};
 
 use mesh::{Answer, Outcome};
+use refusal::Reason;
 
-pub mod inner;
+// What a face comes to: refused in the first sequence, or what the second makes of it.
+pub type Stage = Result<Outcome, Reason>;
 
-// What a face comes to: a number, a refusal of the first sequence, or one of the second.
-#[derive(Clone, Copy)]
-pub enum Stage {
-    Kept(f64),
-    Early(u64),
-    Late(u64),
-}
-
+// Of a face that refuses in the first sequence alone.
+#[tactic(auto, unfolding(crate::specs::Staged::staged))]
 pub fn early(o: Outcome) -> Stage
     ensures { result ≡ staged o o }
 {
-    match o {
-        Outcome::Value(v) => Stage::Kept(v),
-        Outcome::Bad(k) => Stage::Early(k),
-    }
+    Ok(Ok(o?))
 }
 
+// Of one that refuses in the second alone.
 pub fn late(o: Outcome) -> Stage
     ensures { result ≡ late_of o }
 {
-    match o {
-        Outcome::Value(v) => Stage::Kept(v),
-        Outcome::Bad(k) => Stage::Late(k),
-    }
+    Ok(o)
 }
 
-pub fn is_early(s: Stage) -> bool
-    ensures { result ≡ is_early s }
+// Writes what each item comes to over what stood in its place, up to the first refusal.
+pub fn fill<F: Fn(usize, f64) -> Outcome>(out: &mut [f64], item: F) -> Answer
+    requires callable { (i : ℕ) → i < length out.old → F.pre item i (get_or out.old i nan) }
+    ensures fills { let old = out.old in
+        let n = length old in
+        (g : ℕ → Outcome) → ((i : ℕ) (r : Outcome) → i < n → F.post item i (get_or old i nan) r → r ≡ g i) →
+        Passes (first_refusal g n) (values_of g n) result out.new }
 {
-    match s {
-        Stage::Kept(_) => false,
-        Stage::Early(_) => true,
-        Stage::Late(_) => false,
+    for (i, x) in out.iter_mut().enumerate() {
+        match item(i, *x) {
+            Ok(v) => *x = v,
+            Err(reason) => return Err(reason.at(i)),
+        }
     }
-}
-
-pub fn is_late(s: Stage) -> bool
-    ensures { result ≡ is_late s }
-{
-    match s {
-        Stage::Kept(_) => false,
-        Stage::Early(_) => false,
-        Stage::Late(_) => true,
-    }
-}
-
-// The number of a refusal of the first sequence, else 0.
-pub fn early_number(s: Stage) -> u64
-    ensures { result ≡ early_number s }
-{
-    match s {
-        Stage::Kept(_) => 0,
-        Stage::Early(k) => k,
-        Stage::Late(_) => 0,
-    }
-}
-
-fn first_late(a: Answer, k: u64, i: usize) -> Answer
-    ensures { result ≡ late_after a (Late k) i }
-{
-    match a {
-        Answer::Accepted => Answer::Refused(k, i),
-        Answer::Refused(j, h) => Answer::Refused(j, h),
-    }
-}
-
-// The first refusal of the second sequence, with what item i comes to. A loop asks for it only where the
-// item is late: an answer that is handed over at every turn is copied in pieces, which held the pass up.
-pub fn with_late(a: Answer, s: Stage, i: usize) -> Answer
-    ensures { result ≡ late_after a s i }
-{
-    match s {
-        Stage::Kept(_) => a,
-        Stage::Early(_) => a,
-        Stage::Late(k) => first_late(a, k, i),
-    }
+    Ok(())
 }
 
 // Writes v at i, where there is room.
@@ -99,15 +56,14 @@ pub fn store(out: &mut [f64], i: usize, v: f64)
 }
 
 // Hands out what a pass has left: +0.0 throughout where it refuses.
+#[tactic(auto, unfolding(mesh::specs::Pass::handed_out))]
 pub fn settle(out: &mut [f64], a: Answer) -> Answer
     ensures value { result ≡ a }
     ensures out_after { out.new ≡ handed_out a (length out.old) out.old }
 {
-    match a {
-        Answer::Accepted => Answer::Accepted,
-        Answer::Refused(k, i) => {
-            mesh::clear(out);
-            Answer::Refused(k, i)
-        }
+    if let Err(refusal) = a {
+        mesh::clear(out);
+        return Err(refusal);
     }
+    Ok(())
 }

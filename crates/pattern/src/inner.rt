@@ -1,59 +1,27 @@
-// What is read, and compared, within the length of a slice.
-ghost use Rattle.std.specs.Prelude.{ℕ, ◌+◌, ◌<◌, ◌≤◌, ◌≡◌, true, length, get_or, take, drop};
-ghost use Rattle.std.specs.Float.{nan, binary64};
-ghost use Rattle.std.specs.Float.Ieee.{of_bits};
+// What is read, and compared, of a slice.
+ghost use Rattle.std.specs.Prelude.{ℕ, ◌<◌, ◌≡◌, ◌↔◌, true, Some, length, get_or, slice_get};
 ghost use Rattle.pattern.specs.Text.{Spells};
 
-use crate::Hex;
+use crate::word::Word;
 
-// The number whose 16 hex digits stand in text from start on.
-pub fn hex_at(text: &[u8], start: usize) -> Hex
-    requires { start + 16 ≤ length text.now }
-    ensures { Spells (take 16 (drop start text.now)) result }
+// The number whose 16 hex digits are the text.
+pub fn hex(text: &[u8]) -> Option<u64>
+    ensures { Spells text.now result }
 {
+    if text.len() != 16 {
+        return None;
+    }
     let mut n: u64 = 0;
-    let mut i = 0;
-    while i < 16 && crate::digit(text[start + i]) < 16 {
-        n = n * 16 + crate::digit(text[start + i]);
-        i += 1;
+    for b in text {
+        n = n * 16 + crate::digit(*b)?;
     }
-    if i < 16 {
-        return Hex::Other;
-    }
-    Hex::Number(n)
+    Some(n)
 }
 
-// The word at i of what is expected, or `rest` past its end.
-fn expected_at(expected: &[usize], rest: usize, i: usize) -> usize
-    ensures { result ≡ get_or expected.now i rest }
+// Whether a slice holds what is expected, number by number: the words listed, and `rest` past their end.
+pub fn holds<T: Word>(out: &[T], expected: &[usize], rest: usize) -> bool
+    ensures { (result ≡ true) ↔ ((i : ℕ) → i < length out.now →
+        slice_get out.now i ≡ Some (T.of_word (get_or expected.now i rest))) }
 {
-    if i < expected.len() {
-        return expected[i];
-    }
-    rest
-}
-
-// Whether the first n numbers of a slice are what is expected, number by number: the words listed, and `rest` past
-// their end.
-pub fn same_numbers(out: &[usize], n: usize, expected: &[usize], rest: usize) -> bool
-    requires { n ≤ length out.now }
-    ensures { (result ≡ true) → (i : ℕ) → i < n → get_or out.now i 0 ≡ get_or expected.now i rest }
-{
-    let mut i = 0;
-    while i < n && out[i] == expected_at(expected, rest, i) {
-        i += 1;
-    }
-    i == n
-}
-
-// The same of floats, by their patterns.
-pub fn same_reals(out: &[f64], n: usize, expected: &[usize], rest: usize) -> bool
-    requires { n ≤ length out.now }
-    ensures { (result ≡ true) → (i : ℕ) → i < n → get_or out.now i nan ≡ of_bits binary64 (get_or expected.now i rest) }
-{
-    let mut i = 0;
-    while i < n && crate::is_of(expected_at(expected, rest, i) as u64, out[i]) {
-        i += 1;
-    }
-    i == n
+    out.iter().enumerate().all(|(i, x)| x.is_of(expected.get(i).copied().unwrap_or(rest) as u64))
 }

@@ -1,5 +1,5 @@
 // Bit patterns of f64s, NaNs' among them, of which `f64::from_bits` and `f64::to_bits` take none; and
-// patterns as text, read and written.
+// words and patterns as text, read and written.
 #![tactic(auto)]
 
 ghost use Rattle.std.specs.Prelude.{◌≡◌, true, ◌↔◌};
@@ -8,15 +8,7 @@ ghost use Rattle.std.specs.Float.Ieee.{of_bits, to_bits, nan_bits};
 ghost use Rattle.pattern.specs.Text.{Digit};
 
 pub mod inner;
-pub mod print;
-pub mod read;
-
-// The number that 16 bytes spell in hex digits, if they do.
-#[derive(Clone, Copy)]
-pub enum Hex {
-    Number(u64),
-    Other,
-}
+pub mod word;
 
 // Whether a pattern is a NaN's.
 fn is_nan(bits: u64) -> bool
@@ -30,7 +22,7 @@ pub fn value(bits: u64) -> f64
     ensures { result ≡ of_bits binary64 bits }
 {
     if is_nan(bits) {
-        return 0.0 / 0.0;
+        return f64::NAN;
     }
     f64::from_bits(bits)
 }
@@ -39,7 +31,7 @@ pub fn value(bits: u64) -> f64
 pub fn is_of(bits: u64, x: f64) -> bool
     ensures { (result ≡ true) ↔ (x ≡ of_bits binary64 bits) }
 {
-    if x != x {
+    if x.is_nan() {
         return is_nan(bits);
     }
     f64::to_bits(x) == bits
@@ -49,20 +41,20 @@ pub fn is_of(bits: u64, x: f64) -> bool
 pub fn bits(x: f64) -> u64
     ensures { result ≡ to_bits binary64 x }
 {
-    if x != x {
+    if x.is_nan() {
         return 0x7ff8_0000_0000_0000;
     }
     f64::to_bits(x)
 }
 
-// The value of the hex digit b, or 16 where b is none.
-#[tactic(auto, using(crate::proofs::Digits::low_digit, crate::proofs::Digits::high_digit, crate::proofs::Digits::below_digits, crate::proofs::Digits::between_digits, crate::proofs::Digits::above_digits))]
-pub fn digit(b: u8) -> u64
+// The value of the hex digit b.
+#[tactic(auto, using(crate::proofs::Digits::low_digit, crate::proofs::Digits::high_digit, crate::proofs::Digits::no_digit))]
+pub fn digit(b: u8) -> Option<u64>
     ensures { Digit b result }
 {
     match b {
-        b'0'..=b'9' => (b - b'0') as u64,
-        b'a'..=b'f' => (b - b'a') as u64 + 10,
-        _ => 16,
+        b'0'..=b'9' => Some((b - b'0') as u64),
+        b'a'..=b'f' => Some((b - b'a') as u64 + 10),
+        _ => None,
     }
 }

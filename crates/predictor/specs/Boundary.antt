@@ -1,20 +1,17 @@
 -- The coefficients of all faces: those with two cells first, then linked and fixed-value faces, in face order. Definitions only.
-use Rattle.std.specs.Prelude.{◌≡◌, List, [], ◌∷◌, ◌&&◌, cond, ℕ, ◌-◌, ◌*◌, ◌<◌, ◌≤◌, eqb, length, get_or, Float}
+use Rattle.refusal.specs.declared.Reason.TheVariants.{BadSize, WrongLength, OtherMesh}
+use Rattle.std.specs.Prelude.{◌≡◌, List, [], ◌∷◌, ◌&&◌, cond, ℕ, ◌-◌, ◌*◌, ◌<◌, ◌≤◌, eqb, length, get_or, Float, Ok}
 use Rattle.std.specs.Float.{nan}
 use Rattle.binary64.specs.Numbers.{zero64}
-use Rattle.mesh.specs.Answers.{pass, first_of, or_else}
+use Rattle.mesh.specs.Answers.{pass, first_of, or_else, Answer, Outcome, accepted}
 use Rattle.mesh.specs.Checks.{sizes_ok}
 use Rattle.mesh.specs.Mesh.{Bounds, Conditions, bounds_of, conditions_sized, links}
 use Rattle.mesh.specs.Pass.{values_of, handed_out, if_refused}
 use Rattle.mesh.specs.Records.{neighbour_at, peer_at, face_centre, face_area, centre, translation_at, condition_at}
 use Rattle.vector.specs.Vector.{difference}
-use Rattle.mesh.specs.declared.Answer.{Answer}
-use Rattle.mesh.specs.declared.Answer.TheVariants.{Accepted}
 use Rattle.mesh.specs.declared.Condition.{Condition}
 use Rattle.mesh.specs.declared.Condition.TheVariants.{Absent, Fixed, ZeroGradient}
 use Rattle.mesh.specs.declared.Counts.{Counts}
-use Rattle.mesh.specs.declared.Outcome.{Outcome}
-use Rattle.mesh.specs.declared.Outcome.TheVariants.{Value}
 use Rattle.coupling.specs.Face.{linked_coefficient, fixed_coefficient}
 use Rattle.predictor.specs.Coefficients.{internal_at, coefficient_answer, coefficients}
 use Rattle.coupling.specs.Grid.{Grid, Field, own_cell, span_to, pair_at, grid_sized}
@@ -25,8 +22,8 @@ unfoldable pub by_condition : Grid → List Float → ℕ → Condition → Outc
 by_condition m responses f (Fixed v) =
     let away = difference (face_centre m.geometry f) (centre m.places (own_cell m f)) in
     fixed_coefficient (face_area m.geometry f) away (get_or responses (own_cell m f) nan)
-by_condition m responses f ZeroGradient = Value zero64
-by_condition m responses f Absent = Value zero64
+by_condition m responses f ZeroGradient = Ok zero64
+by_condition m responses f Absent = Ok zero64
 
 -- the other cell of a linked face is the peer's owner, seen from this side
 unfoldable pub linked_at : Grid → Bounds → List Float → ℕ → Outcome
@@ -52,7 +49,7 @@ boundary_coefficients m k responses faces = values_of (coefficient_at m k respon
 
 -- a list that holds the coefficients of the faces with two cells, none of which refuses
 abbrev pub Begun : Grid → List Float → List Float → Type 0
-Begun m responses l = (coefficient_answer m responses (length l) ≡ Accepted) × (l ≡ coefficients m responses (length l))
+Begun m responses l = (coefficient_answer m responses (length l) ≡ accepted) × (l ≡ coefficients m responses (length l))
 
 -- ---- the entry
 
@@ -60,9 +57,9 @@ Begun m responses l = (coefficient_answer m responses (length l) ≡ Accepted) �
 unfoldable pub boundary_checks : Counts → Grid → Conditions → Field → ℕ → Answer
 boundary_checks n m k responses outs =
     first_of
-    (pass 1 (sizes_ok n)
-    ∷ pass 2 (grid_sized n m && conditions_sized n.faces k.codes k.values && eqb (length responses.values) n.cells && eqb outs n.faces)
-    ∷ pass 3 (eqb k.number n.mesh && eqb responses.number n.mesh)
+    (pass BadSize (sizes_ok n)
+    ∷ pass WrongLength (grid_sized n m && conditions_sized n.faces k.codes k.values && eqb (length responses.values) n.cells && eqb outs n.faces)
+    ∷ pass OtherMesh (eqb k.number n.mesh && eqb responses.number n.mesh)
     ∷ links n.cells m.adjacency k.codes
     ∷ [])
 
@@ -70,7 +67,8 @@ boundary_checks n m k responses outs =
 pub record BoundaryCall (n : Counts) (m : Grid) (k : Conditions) (responses : Field) (old : List Float) (r : Answer) (new : List Float) : Type 0 where
   pub answer : r ≡ or_else (boundary_checks n m k responses (length old)) (boundary_answer m (bounds_of k) responses.values n.faces)
   pub out :
-      new ≡ if_refused (boundary_checks n m k responses (length old)) old (handed_out r n.faces (boundary_coefficients m (bounds_of k) responses.values n.faces))
+      new ≡ if_refused (boundary_checks n m k responses (length old)) old
+      (handed_out r n.faces (boundary_coefficients m (bounds_of k) responses.values n.faces))
 
 -- what the checks establish of the conditions of so many faces
 pub record Bounded (k : Bounds) (faces : ℕ) : Type 0 where

@@ -1,21 +1,19 @@
 -- The coefficient of every face with two cells. Definitions only.
-use Rattle.std.specs.Prelude.{◌≡◌, List, [], ◌∷◌, ◌&&◌, cond, ℕ, eqb, length, Float}
+use Rattle.refusal.specs.declared.Reason.TheVariants.{BadSize, WrongLength, OtherMesh, BadFace}
+use Rattle.std.specs.Prelude.{◌≡◌, List, [], ◌∷◌, ◌&&◌, cond, ℕ, eqb, length, Float, Ok}
 use Rattle.binary64.specs.Numbers.{zero64}
-use Rattle.mesh.specs.Answers.{pass, at, first_of, or_else}
+use Rattle.mesh.specs.Answers.{pass, at, first_of, or_else, Answer, Outcome}
 use Rattle.mesh.specs.Checks.{sizes_ok, lowest_bad_face}
 use Rattle.mesh.specs.Pass.{first_refusal, values_of, handed_out, if_refused}
 use Rattle.mesh.specs.Records.{neighbour_at}
-use Rattle.mesh.specs.declared.Answer.{Answer}
 use Rattle.mesh.specs.declared.Counts.{Counts}
-use Rattle.mesh.specs.declared.Outcome.{Outcome}
-use Rattle.mesh.specs.declared.Outcome.TheVariants.{Value}
 use Rattle.coupling.specs.Face.{distances, internal_coefficient}
 use Rattle.coupling.specs.Grid.{Grid, Field, other_cell, span, pair_at, grid_sized}
 
 -- +0.0 where the face has one cell
 unfoldable pub internal_at : Grid → List Float → ℕ → Outcome
 internal_at m responses f =
-    cond (eqb (neighbour_at m.adjacency f) 0) (Value zero64)
+    cond (eqb (neighbour_at m.adjacency f) 0) (Ok zero64)
     (internal_coefficient (span m f) (distances (span m f)) (pair_at m responses f (other_cell m f)))
 
 abbrev pub coefficient_answer : Grid → List Float → ℕ → Answer
@@ -28,10 +26,10 @@ coefficients m responses faces = values_of (internal_at m responses) faces
 unfoldable pub coefficient_checks : Counts → Grid → Field → ℕ → Answer
 coefficient_checks n m responses outs =
     first_of
-    (pass 1 (sizes_ok n)
-    ∷ pass 2 (grid_sized n m && eqb (length responses.values) n.cells && eqb outs n.faces)
-    ∷ pass 3 (eqb responses.number n.mesh)
-    ∷ at 4 (lowest_bad_face n.cells m.adjacency)
+    (pass BadSize (sizes_ok n)
+    ∷ pass WrongLength (grid_sized n m && eqb (length responses.values) n.cells && eqb outs n.faces)
+    ∷ pass OtherMesh (eqb responses.number n.mesh)
+    ∷ at BadFace (lowest_bad_face n.cells m.adjacency)
     ∷ [])
 
 -- the answer, and what the output holds after the call: untouched where a check refuses, +0.0 where arithmetic does

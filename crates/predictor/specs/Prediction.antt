@@ -1,7 +1,8 @@
 -- The predicted flux of every face, from the gradient of the pressure. Definitions only.
-use Rattle.std.specs.Prelude.{◌≡◌, List, [], ◌∷◌, Bool, ◌&&◌, cond, ℕ, ◌*◌, eqb, leb, length, get_or, Float}
+use Rattle.refusal.specs.declared.Reason.TheVariants.{BadSize, WrongLength, OtherMesh, BadFace, BrokenChain}
+use Rattle.std.specs.Prelude.{◌≡◌, List, [], ◌∷◌, Bool, ◌&&◌, cond, ℕ, ◌*◌, eqb, leb, length, get_or, Float, Ok}
 use Rattle.std.specs.Float.{nan}
-use Rattle.mesh.specs.Answers.{pass, at, first_of, or_else}
+use Rattle.mesh.specs.Answers.{pass, at, first_of, or_else, Answer, Outcome}
 use Rattle.chain.specs.Chains.{lowest_broken}
 use Rattle.mesh.specs.Checks.{largest_count, sizes_ok, lowest_bad_face}
 use Rattle.mesh.specs.Records.{neighbour_at}
@@ -9,11 +10,8 @@ use Rattle.mesh.specs.Pass.{value_of, values_of, handed_out, if_refused}
 use Rattle.vector.specs.Vector.{vector_at}
 use Rattle.chain.specs.Search.{every_of}
 use Rattle.mesh.specs.Lent.{Slice}
-use Rattle.mesh.specs.declared.Answer.{Answer}
 use Rattle.mesh.specs.declared.Counts.{Counts}
-use Rattle.mesh.specs.declared.Outcome.{Outcome}
-use Rattle.mesh.specs.declared.Outcome.TheVariants.{Value}
-use Rattle.chain.specs.declared.walk.Form.TheVariants.{Single}
+use Rattle.chain.specs.declared.Form.TheVariants.{Single}
 use Rattle.numerics.specs.Slices.{Slices, lengths_of, stencil_sized, from_cell}
 use Rattle.numerics.specs.Gradient.{gradients}
 use Rattle.coupling.specs.Face.{distances, side, predicted_flux}
@@ -42,7 +40,7 @@ side_at q c = side (vector_at q.velocity (3 * c)) (vector_at q.gradient (3 * c))
 -- a face with one cell keeps the wall flux; one with two cells is predicted with its coefficient
 unfoldable pub predicted_at : Grid → Flow → List Float → ℕ → Outcome
 predicted_at m q walls f =
-    cond (eqb (neighbour_at m.adjacency f) 0) (Value (get_or walls f nan))
+    cond (eqb (neighbour_at m.adjacency f) 0) (Ok (get_or walls f nan))
     (predicted_flux (span m f) (distances (span m f)) (value_of (internal_at m q.responses f)) (side_at q (own_cell m f)) (side_at q (other_cell m f)))
 
 -- all refusals of the coefficients come first
@@ -113,21 +111,24 @@ flow_numbers n stencil l =
 unfoldable pub prediction_checks : Counts → Grid → ℕ → ℕ → Slices → FlowFields → ℕ → ℕ → Answer
 prediction_checks n m stencil records s l slopes outs =
     first_of
-    (pass 1 (sizes_ok n && leb records largest_count)
-    ∷ pass 2 (grid_sized n m && stencil_sized n.cells records (lengths_of s) && flow_sized n (sizes_of l) slopes outs)
-    ∷ pass 3 (every_of (flow_numbers n stencil l))
-    ∷ at 4 (lowest_bad_face n.cells m.adjacency)
-    ∷ at 5 (lowest_broken (from_cell n.cells) s.equations Single s.starts)
+    (pass BadSize (sizes_ok n && leb records largest_count)
+    ∷ pass WrongLength (grid_sized n m && stencil_sized n.cells records (lengths_of s) && flow_sized n (sizes_of l) slopes outs)
+    ∷ pass OtherMesh (every_of (flow_numbers n stencil l))
+    ∷ at BadFace (lowest_bad_face n.cells m.adjacency)
+    ∷ at BrokenChain (lowest_broken (from_cell n.cells) s.equations Single s.starts)
     ∷ [])
 
 -- the answer, and what the two outputs hold after the call: untouched where a check refuses, +0.0 where arithmetic does
-pub record PredictionCall (n : Counts) (m : Grid) (stencil records : ℕ) (s : Slices) (l : FlowFields) (oldSlopes old : List Float) (r : Answer) (slopes new : List Float) : Type 0 where
+pub record PredictionCall (n : Counts) (m : Grid) (stencil records : ℕ) (s : Slices) (l : FlowFields)
+    (oldSlopes old : List Float) (r : Answer) (slopes new : List Float) : Type 0 where
   pub answer :
       r ≡ or_else (prediction_checks n m stencil records s l (length oldSlopes) (length old)) (prediction_answer m (flow_of n records s l) l.walls.values)
   pub gradient :
-      slopes ≡ if_refused (prediction_checks n m stencil records s l (length oldSlopes) (length old)) oldSlopes (handed_out r (3 * n.cells) (gradients s records l.pressure.values n.cells))
+      slopes ≡ if_refused (prediction_checks n m stencil records s l (length oldSlopes) (length old)) oldSlopes
+      (handed_out r (3 * n.cells) (gradients s records l.pressure.values n.cells))
   pub out :
-      new ≡ if_refused (prediction_checks n m stencil records s l (length oldSlopes) (length old)) old (handed_out r n.faces (predicted_fluxes m (flow_of n records s l) l.walls.values))
+      new ≡ if_refused (prediction_checks n m stencil records s l (length oldSlopes) (length old)) old
+      (handed_out r n.faces (predicted_fluxes m (flow_of n records s l) l.walls.values))
 
 -- what the checks establish of a flow on so many faces
 pub record Flowing (m : Grid) (q : Flow) (faces : ℕ) : Type 0 where

@@ -1,3 +1,3 @@
--- Laws of numbers three at a time, of records written from the front, and of what the checks leave for the loop that writes them.
-pub mod Filled
+-- Laws of numbers three at a time, and of what the checks leave for the loop that writes the records.
 pub mod Records
+pub mod Written

@@ -1,12 +1,22 @@
 -- Numbers three at a time: the laws `Numbered` and `Regrouped`. Assumes nothing.
 use mathlib.Core.Path.{◌≡◌, refl, sym, ◌∙◌, ap}
 use mathlib.Core.List.{List, [], ◌∷◌, ◌++◌, append_assoc, append-nil}
+use mathlib.Core.Bool.{Bool, true, false}
 use Prim.Native.Nat.{ℕ, zero, suc, ◌+◌, ◌*◌}
 use native.Mathlib.Omega.{arith}
+use lib.Dec.{eqb}
 use lib.Ieee.{Float}
+use borrow.Author.Tests.{eq-eqb, ne_eqb, eqb-true, eqb-false}
 use Rattle.vector.specs.Vector.{vectors_of, vector_at}
 use Rattle.vector.specs.declared.Vec3.{Vec3}
 use Rattle.records.specs.Records.{vectors, records_of, Numbered, Regrouped}
+
+pub eqb_thrice : (m n : ℕ) → eqb (3 * m) (3 * n) ≡ eqb m n
+eqb_thrice m n = go (eqb m n) refl
+  where
+    go : (t : Bool) → eqb m n ≡ t → eqb (3 * m) (3 * n) ≡ t
+    go true e = eq-eqb _ _ (ap (λ (k : ℕ). 3 * k) (eqb-true m n e))
+    go false e = ne_eqb _ _ (λ (p : 3 * m ≡ 3 * n). eqb-false m n e (omega arith))
 
 append-vectors : (h : ℕ → Vec3) (n : ℕ) (l : List Float) → vectors (vectors_of h n ++ l) ≡ records_of h n ++ vectors l
 unfolding vectors vectors_of records_of

@@ -1,7 +1,7 @@
 -- Numbers as records of three. Definitions only.
+use Rattle.mesh.specs.Answers.{Answer}
 use Rattle.std.specs.Prelude.{◌≡◌, List, [], ◌∷◌, ◌++◌, ℕ, zero, suc, ◌+◌, ◌*◌, ◌<◌, length, get_or, Float}
 use Rattle.mesh.specs.Pass.{if_refused}
-use Rattle.mesh.specs.declared.Answer.{Answer}
 use Rattle.mesh.specs.declared.Counts.{Counts}
 use Rattle.numerics.specs.Slices.{Slices}
 use Rattle.numerics.specs.Gradient.{gradients, gradient_checks}

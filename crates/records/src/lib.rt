@@ -2,7 +2,6 @@
 #![tactic(auto)]
 
 ghost use Rattle.std.specs.Prelude.{◌≡◌, ◌*◌};
-ghost use Rattle.mesh.specs.Pass.{if_refused};
 ghost use Rattle.numerics.specs.Slices.{slices_before};
 ghost use Rattle.numerics.specs.Gradient.{gradient_checks};
 ghost use Rattle.records.specs.Records.{RecordsCall};
@@ -11,6 +10,7 @@ use mesh::{Answer, Counts};
 use vector::Vec3;
 
 // The checks of the number form; `outs` is how many records the output has.
+#[tactic(auto, using(crate::proofs::Records::eqb_thrice))]
 fn check(
     counts: Counts,
     stencil: u64,
@@ -40,18 +40,9 @@ fn check(
     )
 }
 
-// How many of so many records a call with this answer writes.
-fn written(answer: Answer, outs: usize) -> usize
-    ensures { result ≡ if_refused answer 0 outs }
-{
-    match answer {
-        Answer::Accepted => outs,
-        Answer::Refused(_, _) => 0,
-    }
-}
-
 // The gradient of a cell field from a stencil, a record a cell. `stencil` is the mesh number of the
 // stencil, and `number` that of the field.
+#[tactic(auto, unfolding(mesh::specs::Pass::if_refused))]
 pub fn least_squares_gradient(
     counts: Counts,
     stencil: u64,
@@ -67,18 +58,22 @@ pub fn least_squares_gradient(
     ensures call { let s = slices_before starts equations weights inverses in
         RecordsCall counts stencil records s number field.now out.old result out.new }
 {
-    let outs = out.len();
-    let answer = check(
-        counts, stencil, records, starts, equations, weights, inverses, number, field, outs,
-    );
-    let cells = written(answer, outs);
-    let mut c = 0;
-    while c < cells {
-        let gradient = numerics::inner::gradient::gradient_at(
+    check(
+        counts,
+        stencil,
+        records,
+        starts,
+        equations,
+        weights,
+        inverses,
+        number,
+        field,
+        out.len(),
+    )?;
+    for (c, gradient) in out.iter_mut().enumerate() {
+        *gradient = numerics::inner::gradient::gradient_at(
             starts, equations, weights, inverses, records, field, c,
         );
-        out[c] = gradient;
-        c += 1;
     }
-    answer
+    Ok(())
 }

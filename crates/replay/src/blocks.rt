@@ -1,67 +1,73 @@
-// The blocks of the list that calls are made on, and where their slices stand.
-use crate::words::{after, skip, word};
-use mesh::Counts;
+// The blocks of a list.
+ghost use Rattle.std.specs.Prelude.{◌<◌, length, OnOk};
+ghost use Rattle.std.specs.Iterator.{at_most};
 
-// A mesh, with the places of its slices and of what follows it.
-#[derive(Clone, Copy)]
-pub struct Mesh {
-    pub counts: Counts,
-    pub adjacency: usize,
-    pub geometry: usize,
-    pub heads: usize,
-    pub places: usize,
-    pub facing: usize,
-    pub bordering: usize,
-    pub end: usize,
+use crate::entry::Entry;
+use crate::fault::Broken;
+use crate::words::Words;
+use mesh::{Conditions, Mesh};
+
+pub enum Block<'a> {
+    Mesh(Mesh<'a>),
+    Conditions(Conditions<'a>),
+    // Pairs of a number and its root.
+    Roots(Words<'a>),
+    Call(Entry, Words<'a>),
 }
 
-#[derive(Clone, Copy)]
-pub struct Conditions {
-    pub number: u64,
-    pub codes: usize,
-    pub values: usize,
-    pub end: usize,
-}
-
-fn counts_at(words: &[usize], at: usize) -> Counts {
-    Counts {
-        mesh: word(words, at, 0) as u64,
-        dimension: word(words, at, 1),
-        cells: word(words, at, 2),
-        faces: word(words, at, 3),
-        facings: word(words, at, 4),
-        borderings: word(words, at, 5),
+impl<'a> Block<'a> {
+    // The block of a kind that has these words.
+    fn of(kind: usize, mut words: Words<'a>) -> Result<Block<'a>, Broken> {
+        match kind {
+            1 => {
+                let mesh = words.mesh()?;
+                words.end()?;
+                Ok(Block::Mesh(mesh))
+            }
+            2 => {
+                let conditions = words.conditions()?;
+                words.end()?;
+                Ok(Block::Conditions(conditions))
+            }
+            3 => Ok(Block::Roots(words)),
+            _ => {
+                let entry = Entry::try_from(kind).map_err(|_| words.broken())?;
+                Ok(Block::Call(entry, words))
+            }
+        }
     }
 }
 
-pub(crate) fn mesh_at(words: &[usize], at: usize) -> Mesh {
-    let counts = counts_at(words, at);
-    let adjacency = skip(words, at, 6);
-    let geometry = after(words, adjacency);
-    let heads = after(words, geometry);
-    let places = after(words, heads);
-    let facing = after(words, places);
-    let bordering = after(words, facing);
-    let end = after(words, bordering);
-    Mesh {
-        counts,
-        adjacency,
-        geometry,
-        heads,
-        places,
-        facing,
-        bordering,
-        end,
+// The blocks that start at the next word, up to the first that is broken.
+#[derive(Drop)]
+pub struct Blocks<'a> {
+    pub words: Words<'a>,
+}
+
+impl<'a> Blocks<'a> {
+    // The next block: its kind, how many words follow, and these.
+    fn block(&mut self) -> Result<Block<'a>, Broken>
+        ensures taken { OnOk result (length self.new.words.lines.now < length self.old.words.lines.now) }
+    {
+        let kind = self.words.number()?;
+        let n = self.words.number()?;
+        let words = self.words.take(n)?;
+        Block::of(kind, words)
     }
 }
 
-pub(crate) fn conditions_at(words: &[usize], at: usize) -> Conditions {
-    let codes = skip(words, at, 1);
-    let values = after(words, codes);
-    Conditions {
-        number: word(words, at, 0) as u64,
-        codes,
-        values,
-        end: after(words, values),
+impl<'a> Iterator for Blocks<'a> {
+    type Item = Result<Block<'a>, Broken>;
+
+    ghost remaining = { λ s. at_most (length s.words.lines.now) };
+
+    // Nothing is read after a broken block.
+    fn next(&mut self) -> Option<Result<Block<'a>, Broken>> {
+        self.words.block = *self.words.lines.first()?;
+        let block = self.block();
+        if block.is_err() {
+            self.words.lines = &[];
+        }
+        Some(block)
     }
 }

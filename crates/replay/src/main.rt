@@ -4,87 +4,95 @@
 // `binary64::sqrt`.
 #![tactic(auto)]
 
-use crate::tally::PLACES;
-use std::io;
+use crate::blocks::Block;
+use crate::calls::Setting;
+use crate::fault::Fault;
+use crate::list::List;
+use crate::tally::{Subject, Tally};
+use crate::words::Words;
+use std::io::{self, Read};
 
 mod blocks;
 mod calls;
-mod lent;
+mod entry;
+mod fault;
+mod list;
+mod outputs;
 mod tally;
-mod text;
-mod verdict;
-mod walk;
 mod words;
 
-// Room for the list's bytes, for its words, and for an output.
-const BYTES: usize = 1310720;
+// A list has fewer bytes.
+const TOO_MANY_BYTES: usize = 1310720;
 
-const WORDS: usize = 65536;
-
-const ROOM: usize = 1024;
-
-// No place in the list.
-const NOWHERE: usize = usize::MAX;
-
-// What outputs hold before a call; as a float it is no NaN.
-const FILL: usize = 0xa5a5_a5a5_a5a5_a5a5;
-
-// One more, short of the largest number.
-fn more(n: usize) -> usize {
-    if n < usize::MAX {
-        return n + 1;
+// Standard input, or as much of it as is too long for a list.
+fn text_of_input(rt: &(impl Input + AllocGlobal)) -> Result<Vec<u8>, Fault> {
+    let mut text = Vec::new(rt.alloc());
+    rt.reader()
+        .take(TOO_MANY_BYTES as u64)
+        .read_to_end(&mut text)?;
+    if text.len() == TOO_MANY_BYTES {
+        return Err(Fault::TooLong);
     }
-    n
+    Ok(text)
 }
 
-fn print_broken(rt: &impl Print, line: u64) -> io::Result<()> {
-    println!(rt; "line {line}: the list is broken")
-}
-
-// Reads standard input, and answers how many bytes it has, or BYTES where it has more.
-fn filled(rt: &impl Input, text: &mut [u8; BYTES]) -> io::Result<usize> {
-    pattern::read::fill(&mut rt.reader(), text)
-}
-
-// Walks over the first n words, and writes the tally where no block is broken.
-fn replayed(
-    rt: &impl Print,
-    words: &[usize],
-    floats: &[f64],
-    lines: &[u64],
-    n: usize,
-) -> io::Result<()> {
-    if n == NOWHERE {
-        return Ok(());
+// Takes the root of the first number of each pair.
+fn compare_roots(rt: &impl Print, words: Words<'_>, tally: &mut Tally) -> Result<(), Fault> {
+    let (pairs, odd) = words.numbers.as_chunks::<2>();
+    let (lines, _) = words.lines.as_chunks::<2>();
+    if !odd.is_empty() {
+        return Err(Fault::Broken(words.broken()));
     }
-    let mut tally = [0; PLACES];
-    if walk::walked(rt, words::part(words, 0, n), floats, lines, &mut tally)? {
-        tally::print_tally(rt, &tally)?;
+    for ([number, root], [line, _]) in pairs.iter().zip(lines) {
+        let found = binary64::sqrt(pattern::value(*number as u64));
+        tally.count(
+            rt,
+            Subject::Roots,
+            pattern::is_of(*root as u64, found),
+            *line,
+        )?;
     }
     Ok(())
 }
 
-// Makes the calls of a list of n bytes.
-fn run(
-    rt: &impl Print,
-    text: &[u8; BYTES],
-    n: usize,
-    words: &mut [usize; WORDS],
-    floats: &mut [f64; WORDS],
-    lines: &mut [u64; WORDS],
-) -> io::Result<()> {
-    if n == BYTES {
-        return println!(rt; "the list is too long");
+// Makes the calls of a list, on the mesh and the conditions that stand last above each.
+fn replay(rt: &(impl Print + AllocGlobal), list: &List) -> Result<Tally, Fault> {
+    let mut tally = Tally::new(rt.alloc());
+    let mut last_mesh = None;
+    let mut last_conditions = None;
+    for block in list.blocks() {
+        match block? {
+            Block::Mesh(mesh) => last_mesh = Some(mesh),
+            Block::Conditions(conditions) => last_conditions = Some(conditions),
+            Block::Roots(words) => compare_roots(rt, words, &mut tally)?,
+            Block::Call(entry, words) => {
+                let (Some(mesh), Some(conditions)) = (last_mesh, last_conditions) else {
+                    return Err(Fault::Broken(words.broken()));
+                };
+                let setting = Setting {
+                    alloc: rt.alloc(),
+                    mesh,
+                    conditions,
+                };
+                let agrees = setting.agrees(entry, words)?;
+                tally.count(rt, Subject::Calls(entry), agrees, words.block)?;
+            }
+        }
     }
-    let count = text::read(rt, text::head(text, n), words, floats, lines)?;
-    replayed(rt, words, floats, lines, count)
+    Ok(tally)
+}
+
+fn run(rt: &(impl Input + Print + AllocGlobal)) -> Result<Tally, Fault> {
+    let text = text_of_input(rt)?;
+    let list = List::parse(rt.alloc(), &text)?;
+    replay(rt, &list)
 }
 
 fn main(rt: HostRuntime) -> io::Result<()> {
-    let mut text = [0u8; BYTES];
-    let n = filled(&rt, &mut text)?;
-    let mut words = [0; WORDS];
-    let mut floats = [0.0; WORDS];
-    let mut lines = [0; WORDS];
-    run(&rt, &text, n, &mut words, &mut floats, &mut lines)
+    match run(&rt) {
+        Ok(tally) => tally.print(&rt),
+        Err(Fault::Io(error)) => Err(error),
+        Err(Fault::Memory(error)) => Err(error.into()),
+        Err(fault) => println!(rt; "{fault}"),
+    }
 }

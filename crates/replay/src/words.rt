@@ -1,65 +1,132 @@
-// The words of the list by their places. Nothing is at NOWHERE, nor past the last word.
-use crate::NOWHERE;
+// The words of a list, or of a block of it, read one after another.
+ghost use Rattle.std.specs.Prelude.{◌≡◌, ◌+◌, length, OnOk};
 
-// The word that stands k after a place, or 0 where there is none.
-pub(crate) fn word(words: &[usize], at: usize, k: usize) -> usize {
-    if at >= words.len() {
-        return 0;
-    }
-    if k >= words.len() - at {
-        return 0;
-    }
-    words[at + k]
+use crate::fault::Broken;
+use mesh::{Conditions, Counts, Field, Mesh};
+
+// Words that are still to be read: the same stretch of the three slices of a list. `block` is the line
+// where their block starts.
+#[derive(Clone, Copy)]
+pub struct Words<'a> {
+    pub block: u64,
+    pub numbers: &'a [usize],
+    pub reals: &'a [f64],
+    pub lines: &'a [u64],
 }
 
-// The place k after another, which may be the end of the words.
-pub(crate) fn skip(words: &[usize], at: usize, k: usize) -> usize {
-    if at > words.len() {
-        return NOWHERE;
-    }
-    if k > words.len() - at {
-        return NOWHERE;
-    }
-    at + k
+// The slices of a stencil, how many equation records it has, and the number of its mesh.
+#[derive(Clone, Copy)]
+pub struct Stencil<'a> {
+    pub number: u64,
+    pub records: usize,
+    pub starts: &'a [usize],
+    pub equations: &'a [usize],
+    pub weights: &'a [f64],
+    pub inverses: &'a [f64],
 }
 
-// The place after a slice, whose length stands at `at`.
-pub(crate) fn after(words: &[usize], at: usize) -> usize {
-    if at < words.len() {
-        return skip(words, skip(words, at, 1), words[at]);
+impl<'a> Words<'a> {
+    pub fn broken(&self) -> Broken {
+        Broken { line: self.block }
     }
-    NOWHERE
-}
 
-// The n words from a place on, or none.
-pub(crate) fn part(words: &[usize], at: usize, n: usize) -> &[usize] {
-    if at > words.len() {
-        return &words[..0];
+    // The next n words.
+    pub fn take(&mut self, n: usize) -> Result<Words<'a>, Broken>
+        ensures taken { OnOk result (length self.new.lines.now + n ≡ length self.old.lines.now) }
+    {
+        let broken = self.broken();
+        let (numbers, other_numbers) = self.numbers.split_at_checked(n).ok_or(broken)?;
+        let (reals, other_reals) = self.reals.split_at_checked(n).ok_or(broken)?;
+        let (lines, other_lines) = self.lines.split_at_checked(n).ok_or(broken)?;
+        let taken = Words {
+            block: self.block,
+            numbers,
+            reals,
+            lines,
+        };
+        *self = Words {
+            block: self.block,
+            numbers: other_numbers,
+            reals: other_reals,
+            lines: other_lines,
+        };
+        Ok(taken)
     }
-    if n > words.len() - at {
-        return &words[..0];
-    }
-    let end = at + n;
-    &words[at..end]
-}
 
-pub(crate) fn float_part(floats: &[f64], at: usize, n: usize) -> &[f64] {
-    if at > floats.len() {
-        return &floats[..0];
+    // That there are no more words.
+    pub fn end(&self) -> Result<(), Broken> {
+        if self.lines.is_empty() {
+            Ok(())
+        } else {
+            Err(self.broken())
+        }
     }
-    if n > floats.len() - at {
-        return &floats[..0];
+
+    // The next word.
+    pub fn number(&mut self) -> Result<usize, Broken>
+        ensures taken { OnOk result (length self.new.lines.now + 1 ≡ length self.old.lines.now) }
+    {
+        let broken = self.broken();
+        self.take(1)?.numbers.first().copied().ok_or(broken)
     }
-    let end = at + n;
-    &floats[at..end]
-}
 
-// A slice of whole numbers, whose length stands at `at`.
-pub(crate) fn numbers(words: &[usize], at: usize) -> &[usize] {
-    part(words, skip(words, at, 1), word(words, at, 0))
-}
+    // The next slice, which follows its length.
+    pub fn numbers(&mut self) -> Result<&'a [usize], Broken> {
+        let n = self.number()?;
+        Ok(self.take(n)?.numbers)
+    }
 
-// A slice of floats, whose length stands at `at` among the words.
-pub(crate) fn reals<'a>(words: &[usize], floats: &'a [f64], at: usize) -> &'a [f64] {
-    float_part(floats, skip(words, at, 1), word(words, at, 0))
+    pub fn reals(&mut self) -> Result<&'a [f64], Broken> {
+        let n = self.number()?;
+        Ok(self.take(n)?.reals)
+    }
+
+    pub fn field(&mut self) -> Result<Field<'a>, Broken> {
+        Ok(Field {
+            number: self.number()? as u64,
+            values: self.reals()?,
+        })
+    }
+
+    pub fn stencil(&mut self, records: usize) -> Result<Stencil<'a>, Broken> {
+        Ok(Stencil {
+            number: self.number()? as u64,
+            records,
+            starts: self.numbers()?,
+            equations: self.numbers()?,
+            weights: self.reals()?,
+            inverses: self.reals()?,
+        })
+    }
+
+    fn counts(&mut self) -> Result<Counts, Broken> {
+        Ok(Counts {
+            mesh: self.number()? as u64,
+            dimension: self.number()?,
+            cells: self.number()?,
+            faces: self.number()?,
+            facings: self.number()?,
+            borderings: self.number()?,
+        })
+    }
+
+    pub fn mesh(&mut self) -> Result<Mesh<'a>, Broken> {
+        Ok(Mesh {
+            counts: self.counts()?,
+            adjacency: self.numbers()?,
+            geometry: self.reals()?,
+            heads: self.numbers()?,
+            places: self.reals()?,
+            facing: self.numbers()?,
+            bordering: self.numbers()?,
+        })
+    }
+
+    pub fn conditions(&mut self) -> Result<Conditions<'a>, Broken> {
+        Ok(Conditions {
+            number: self.number()? as u64,
+            codes: self.numbers()?,
+            values: self.reals()?,
+        })
+    }
 }

@@ -1,34 +1,30 @@
 // The text of a line.
 ghost use Rattle.roots.specs.Text.{Holds};
 
-use pattern::Hex;
+use pattern::inner::hex;
 
-// What a line holds: the patterns of a value and of its root. End is past the last line.
+// What a line holds: the patterns of a value and of its root.
 #[derive(Clone, Copy)]
-pub enum Line {
-    Pair(u64, u64),
-    Broken,
-    End,
+pub struct Pair {
+    pub value: u64,
+    pub root: u64,
 }
 
-// The patterns that a line's text holds.
-pub(crate) fn patterns(text: &[u8]) -> Line
-    ensures { Holds text.now result }
-{
-    if text.len() != 34 {
-        return Line::Broken;
+// The bytes of a line.
+pub const LENGTH: usize = 34;
+
+impl Pair {
+    // The pair of a line, where the text is one.
+    #[tactic(auto, using(crate::proofs::Lines::parts))]
+    pub(crate) fn of(text: &[u8]) -> Option<Pair>
+        ensures { Holds text.now result }
+    {
+        if text.len() != LENGTH || text[16] != b' ' || text[33] != b'\n' {
+            return None;
+        }
+        Some(Pair {
+            value: hex(&text[..16])?,
+            root: hex(&text[17..33])?,
+        })
     }
-    if text[16] != b' ' {
-        return Line::Broken;
-    }
-    if text[33] != b'\n' {
-        return Line::Broken;
-    }
-    let Hex::Number(x) = pattern::inner::hex_at(text, 0) else {
-        return Line::Broken;
-    };
-    let Hex::Number(root) = pattern::inner::hex_at(text, 17) else {
-        return Line::Broken;
-    };
-    Line::Pair(x, root)
 }

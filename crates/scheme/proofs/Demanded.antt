@@ -1,4 +1,5 @@
 -- An accepted step meets demand 3. Assumes nothing.
+use Rattle.std.specs.Prelude.{Option, None, Some}
 use mathlib.Core.Path.{◌≡◌, refl, sym, subst}
 use Prim.Native.Nat.{ℕ, ◌<◌}
 use native.Mathlib.Omega.{arith}
@@ -8,11 +9,8 @@ use lib.Ieee.{Float, nan, binary64, fits}
 use lib.Ieee.Scale.{finite}
 use borrow.Author.Tests.{not-false}
 use Rattle.binary64.specs.Numbers.{is_finite}
-use Rattle.mesh.specs.Answers.{first_of}
+use Rattle.mesh.specs.Answers.{first_of, accepted}
 use Rattle.chain.specs.Search.{lowest_where}
-use Rattle.mesh.specs.declared.Answer.TheVariants.{Accepted}
-use Rattle.chain.specs.declared.Found.{Found}
-use Rattle.chain.specs.declared.Found.TheVariants.{Nothing, At}
 use Rattle.mesh.proofs.Facts.{both_accepted}
 use Rattle.chain.proofs.Search.{none_below}
 use Rattle.mesh.proofs.Values.{value_at}
@@ -33,10 +31,10 @@ use Rattle.scheme.specs.Demand.{walls_of, DemandThree}
 use Rattle.scheme.proofs.Fitting.{value_fits}
 use Rattle.scheme.proofs.Parts.{predicted_size, fluxes_size, outflows_size, wall_kept, below, correctable, flows}
 
-nothing_spilled : (f : Found) → spilled f ≡ Accepted → f ≡ Nothing
+nothing_spilled : (f : Option ℕ) → spilled f ≡ accepted → f ≡ None
 unfolding spilled
-nothing_spilled Nothing h = refl
-nothing_spilled (At c) h = cc
+nothing_spilled None h = refl
+nothing_spilled (Some c) h = cc
 
 module _ (d : Inputs) (ready : Lendable d) where
   abbrev faces : ℕ
@@ -45,8 +43,8 @@ module _ (d : Inputs) (ready : Lendable d) where
   abbrev cells : ℕ
   cells = d.mesh.counts.cells
 
-  module _ (fit : (f : ℕ) → f < length d.walls.values → T (fits binary64 (get_or d.walls.values f nan))) (ok : work_answer d ≡ Accepted) where
-    corrected_ok : correction_answer (correcting_of d) ≡ Accepted
+  module _ (fit : (f : ℕ) → f < length d.walls.values → T (fits binary64 (get_or d.walls.values f nan))) (ok : work_answer d ≡ accepted) where
+    corrected_ok : correction_answer (correcting_of d) ≡ accepted
     unfolding work_answer first_of
     corrected_ok =
         let one = both_accepted (stencil_answer (lent_of d.mesh d.conditions) d.records) _ ok in
@@ -54,7 +52,7 @@ module _ (d : Inputs) (ready : Lendable d) where
         let three = both_accepted (boundary_answer (grid_of d) (bounds_of d.conditions) d.responses.values faces) _ two.1 in
         (both_accepted (correction_answer (correcting_of d)) _ three.1).0
 
-    finite_ok : finite_answer (outflows_of d) ≡ Accepted
+    finite_ok : finite_answer (outflows_of d) ≡ accepted
     unfolding work_answer first_of
     finite_ok =
         let one = both_accepted (stencil_answer (lent_of d.mesh d.conditions) d.records) _ ok in
@@ -62,7 +60,7 @@ module _ (d : Inputs) (ready : Lendable d) where
         let three = both_accepted (boundary_answer (grid_of d) (bounds_of d.conditions) d.responses.values faces) _ two.1 in
         let four = both_accepted (correction_answer (correcting_of d)) _ three.1 in
         let five = both_accepted (metrics_answer (metrics_of d.mesh.places (outflows_of d))) _ four.1 in
-        (both_accepted (finite_answer (outflows_of d)) Accepted five.1).0
+        (both_accepted (finite_answer (outflows_of d)) accepted five.1).0
 
     finite_outflows : (c : ℕ) → c < length (outflows_of d) → T (finite (get_or (outflows_of d) c nan))
     finite_outflows c l =

@@ -1,16 +1,16 @@
 -- What each part of the step asks for, from what the checks of the whole establish. Assumes nothing.
+use Rattle.std.specs.Prelude.{Ok, Err}
 use mathlib.Core.Path.{◌≡◌, refl, sym, ap, ◌∙◌, subst}
 use mathlib.Core.List.{List, [], ◌∷◌}
 use Prim.Native.Nat.{ℕ, ◌*◌, ◌<◌}
 use native.Mathlib.Omega.{arith}
 use lib.ListN.{length, get_or, replicate, length-replicate}
 use lib.Ieee.{Float, nan}
-use Rattle.mesh.specs.Answers.{or_else, first_of}
+use Rattle.refusal.specs.declared.Refusal.{Refusal}
+use Rattle.mesh.specs.Answers.{or_else, first_of, Answer, accepted, refused}
 use Rattle.mesh.specs.Pass.{value_of}
 use Rattle.mesh.specs.Mesh.{bounds_of}
 use Rattle.mesh.specs.Records.{neighbour_at}
-use Rattle.mesh.specs.declared.Answer.{Answer}
-use Rattle.mesh.specs.declared.Answer.TheVariants.{Accepted, Refused}
 use Rattle.mesh.proofs.Facts.{both_accepted, peer_below}
 use Rattle.mesh.proofs.Values.{length-list_of, get_or-list_of}
 use Rattle.numerics.specs.Slices.{Slices}
@@ -42,13 +42,13 @@ with_coefficients a c v p k l x e m = record {
 }
 
 -- after an accepted prediction the coefficients of the faces with two cells are there
-pub begun : (m : Grid) (q : Flow) (walls l : List Float) → prediction_answer m q walls ≡ Accepted → length l ≡ length walls → l ≡ coefficients m q.responses (length walls) → Begun m q.responses l
+pub begun : (m : Grid) (q : Flow) (walls l : List Float) → prediction_answer m q walls ≡ accepted → length l ≡ length walls → l ≡ coefficients m q.responses (length walls) → Begun m q.responses l
 begun m q walls l ok e is = (rw e (both_accepted (coefficient_answer m q.responses (length walls)) _ ok).0, is ∙ ap (coefficients m q.responses) (sym e))
 
 -- ---- the stencil
 
 -- one that was accepted serves for a gradient
-pub sloped : (l : Lent) (records : ℕ) (s : Slices) (p : List Float) → Buildable l → stencil_answer l records ≡ Accepted → s ≡ stencil_slices l records
+pub sloped : (l : Lent) (records : ℕ) (s : Slices) (p : List Float) → Buildable l → stencil_answer l records ≡ accepted → s ≡ stencil_slices l records
     → length s.starts ≡ l.mesh.counts.cells → length s.equations ≡ 2 * records → length s.weights ≡ 4 * records → length s.inverses ≡ 9 * l.mesh.counts.cells
     → length p ≡ l.mesh.counts.cells → Sloped s records p
 sloped l records s p good ok is ls le lw li lp = record {
@@ -64,13 +64,13 @@ sloped l records s p good ok is ls le lw li lp = record {
 -- the six answers, two of each part
 pub regrouped : (a b c e f g : Answer) → first_of (a ∷ b ∷ c ∷ e ∷ f ∷ g ∷ []) ≡ or_else (or_else a b) (or_else (or_else c e) (or_else f g))
 unfolding first_of or_else
-regrouped (Refused k i) b c e f g = refl
-regrouped Accepted (Refused k i) c e f g = refl
-regrouped Accepted Accepted (Refused k i) e f g = refl
-regrouped Accepted Accepted Accepted (Refused k i) f g = refl
-regrouped Accepted Accepted Accepted Accepted (Refused k i) g = refl
-regrouped Accepted Accepted Accepted Accepted Accepted (Refused k i) = refl
-regrouped Accepted Accepted Accepted Accepted Accepted Accepted = refl
+regrouped (Err x) b c e f g = refl
+regrouped (Ok u0) (Err x) c e f g = refl
+regrouped (Ok u0) (Ok u1) (Err x) e f g = refl
+regrouped (Ok u0) (Ok u1) (Ok u2) (Err x) f g = refl
+regrouped (Ok u0) (Ok u1) (Ok u2) (Ok u3) (Err x) g = refl
+regrouped (Ok u0) (Ok u1) (Ok u2) (Ok u3) (Ok u4) (Err x) = refl
+regrouped (Ok u0) (Ok u1) (Ok u2) (Ok u3) (Ok u4) (Ok u5) = refl
 
 -- ---- the parts of one step
 
@@ -202,14 +202,14 @@ module _ (d : Inputs) (ready : Lendable d) where
   unfolding work_answer
   work_is = regrouped _ _ _ _ _ _
 
-  pub ends_first : (r : Answer) (k i : ℕ) → r ≡ prediction_part → r ≡ Refused k i → Refused k i ≡ work_answer d
+  pub ends_first : (r s : Answer) (e : Refusal) → r ≡ prediction_part → r ≡ Err e → s ≡ Err e → s ≡ work_answer d
   unfolding or_else
-  ends_first r k i h e = sym (work_is ∙ rw (sym h ∙ e))
+  ends_first r s x h e same = same ∙ sym (work_is ∙ rw (sym h ∙ e))
 
-  pub ends_second : (p r : Answer) (k i : ℕ) → p ≡ prediction_part → p ≡ Accepted → r ≡ correction_part → r ≡ Refused k i → Refused k i ≡ work_answer d
+  pub ends_second : (p r s : Answer) (e : Refusal) → p ≡ prediction_part → p ≡ accepted → r ≡ correction_part → r ≡ Err e → s ≡ Err e → s ≡ work_answer d
   unfolding or_else
-  ends_second p r k i hp ep h e = sym (work_is ∙ rw (sym hp ∙ ep) (rw (sym h ∙ e)))
+  ends_second p r s x hp ep h e same = same ∙ sym (work_is ∙ rw (sym hp ∙ ep) (rw (sym h ∙ e)))
 
-  pub ends_last : (p c r : Answer) (o : List Float) → p ≡ prediction_part → p ≡ Accepted → c ≡ correction_part → c ≡ Accepted → o ≡ outflows_of d → r ≡ measured_part o → r ≡ work_answer d
+  pub ends_last : (p c r : Answer) (o : List Float) → p ≡ prediction_part → p ≡ accepted → c ≡ correction_part → c ≡ accepted → o ≡ outflows_of d → r ≡ measured_part o → r ≡ work_answer d
   unfolding or_else
   ends_last p c r o hp ep hc ec eo h = sym (work_is ∙ rw (sym hp ∙ ep) (rw (sym hc ∙ ec) (sym (h ∙ ap measured_part eo))))

@@ -5,12 +5,11 @@
 --    less one times the sum of their magnitudes; and all outflows together differ from the exact flux through the faces with one cell by at most the sum of these bounds.
 -- 2. An unlinked one-cell zero-gradient face keeps the wall flux as lent.
 -- 3. Two linked faces whose wall fluxes are opposite and whose coefficients are equal leave with opposite fluxes, a zero's sign aside both times.
+use Rattle.mesh.specs.Answers.{Answer, accepted}
 use Rattle.std.specs.Prelude.{◌≡◌, List, ℕ, ◌<◌, T, length, get_or, Float}
 use Rattle.std.specs.Float.{nan}
 use Rattle.std.specs.Float.Ieee.Scale.{finite}
 use Rattle.mesh.specs.Records.{neighbour_at, code_at, peer_at}
-use Rattle.mesh.specs.declared.Answer.{Answer}
-use Rattle.mesh.specs.declared.Answer.TheVariants.{Accepted}
 use Rattle.numerics.specs.Outflow.{faces_of}
 use Rattle.balance.specs.Balance.{Balanced}
 use Rattle.corrector.specs.Promise.{Boundary, Promise}
@@ -35,4 +34,4 @@ pub record DemandThree (d : Inputs) (corrected outflow : List Float) : Type 0 wh
   pub kept : Promise (walls_of d) corrected
 
 abbrev pub Demanded : Answer → Inputs → List Float → List Float → Type 0
-Demanded r d fluxes outflow = r ≡ Accepted → DemandThree d fluxes outflow
+Demanded r d fluxes outflow = r ≡ accepted → DemandThree d fluxes outflow

@@ -1,12 +1,12 @@
 -- The examples P1 to P12 of document 01, as one table. Floats are given by their bit patterns. Definitions only.
-use Rattle.std.specs.Prelude.{◌≡◌, List, [], ◌∷◌, ℕ, ◌+◌, ◌*◌, ◌^◌, ◌≤◌, pos, nat_abs, ◌-ℤ◌, Float}
+use Rattle.refusal.specs.declared.Reason.TheVariants.{BadCoefficient}
+use Rattle.std.specs.Prelude.{◌≡◌, List, [], ◌∷◌, ℕ, ◌+◌, ◌*◌, ◌^◌, ◌≤◌, pos, nat_abs, ◌-ℤ◌, Float, Ok, Err}
 use Rattle.std.specs.Float.{binary64}
 use Rattle.std.specs.Float.Ieee.{of_bits}
 use Rattle.binary64.specs.Numbers.{zero64}
 use Rattle.binary64.specs.Root.{root}
 use Rattle.binary64.specs.Units.{exact_total}
 use Rattle.vector.specs.Vector.{vec}
-use Rattle.mesh.specs.declared.Outcome.TheVariants.{Value, Bad}
 use Rattle.vector.specs.declared.Vec3.{Vec3}
 use Rattle.coupling.specs.Face.{pair, distances, internal_coefficient}
 use Rattle.coupling.specs.declared.Span.{Span}
@@ -84,11 +84,11 @@ pub data Example : Type 0 where
 
 abbrev pub Holds : Example → Type 0
 Holds (root_is x r) = root (float x) ≡ float r
-Holds (coefficient_is s a b k) = internal_coefficient s (distances s) (pair (float a) (float b)) ≡ Value (float k)
-Holds (flux_is p k other own v) = corrected_flux_at (internal_face (float p) (float k) (float other) (float own)) 0 ≡ Value (float v)
-Holds (fixed_is p k value own v) = corrected_flux_at (fixed_face (float p) (float k) (float value) (float own)) 0 ≡ Value (float v)
-Holds (coefficient_refused k) = (p other own : Float) → corrected_flux_at (internal_face p (float k) other own) 0 ≡ Bad 9
-Holds (coefficient_unread k) = (p own : Float) → corrected_flux_at (free_face p (float k) own) 0 ≡ Value p
+Holds (coefficient_is s a b k) = internal_coefficient s (distances s) (pair (float a) (float b)) ≡ Ok (float k)
+Holds (flux_is p k other own v) = corrected_flux_at (internal_face (float p) (float k) (float other) (float own)) 0 ≡ Ok (float v)
+Holds (fixed_is p k value own v) = corrected_flux_at (fixed_face (float p) (float k) (float value) (float own)) 0 ≡ Ok (float v)
+Holds (coefficient_refused k) = (p other own : Float) → corrected_flux_at (internal_face p (float k) other own) 0 ≡ Err BadCoefficient
+Holds (coefficient_unread k) = (p own : Float) → corrected_flux_at (free_face p (float k) own) 0 ≡ Ok p
 Holds (outflow_is adjacency fluxes o s) =
     (outflows 1 adjacency fluxes ≡ (float o ∷ []))
     × (exact_total binary64 (terms (faces_of adjacency fluxes) 3 0) ≡ pos s)

@@ -1,15 +1,12 @@
 -- The whole step, from the parts' definitions: stencil, predicted flux, coefficients with boundary, correction, outflow, metrics. Definitions only.
-use Rattle.std.specs.Prelude.{◌≡◌, List, [], ◌∷◌, Bool, not, ℕ, ◌*◌, ◌≤◌, length, get_or, Float}
+use Rattle.refusal.specs.declared.Reason.TheVariants.{BadCoefficient}
+use Rattle.std.specs.Prelude.{◌≡◌, List, [], ◌∷◌, Bool, not, ℕ, ◌*◌, ◌≤◌, length, get_or, Float, Option, None, Some}
 use Rattle.std.specs.Float.{nan}
 use Rattle.binary64.specs.Numbers.{is_finite}
-use Rattle.mesh.specs.Answers.{first_of}
+use Rattle.mesh.specs.Answers.{first_of, Answer, accepted, refused}
 use Rattle.mesh.specs.Checks.{largest_count}
 use Rattle.mesh.specs.Mesh.{Mesh, Conditions, conditions, Good, bounds_of}
 use Rattle.chain.specs.Search.{lowest_where}
-use Rattle.mesh.specs.declared.Answer.{Answer}
-use Rattle.mesh.specs.declared.Answer.TheVariants.{Accepted, Refused}
-use Rattle.chain.specs.declared.Found.{Found}
-use Rattle.chain.specs.declared.Found.TheVariants.{Nothing, At}
 use Rattle.numerics.specs.Slices.{Slices}
 use Rattle.stencil.specs.Lent.{lent_of}
 use Rattle.numerics.specs.Gradient.{gradients}
@@ -75,9 +72,9 @@ outflows_of d = outflows d.mesh.counts.cells d.mesh.adjacency (fluxes_of d)
 -- ---- the answer
 
 -- 9 with index 0 where an outflow is not finite
-unfoldable pub spilled : Found → Answer
-spilled Nothing = Accepted
-spilled (At c) = Refused 9 0
+unfoldable pub spilled : Option ℕ → Answer
+spilled None = accepted
+spilled (Some c) = refused BadCoefficient 0
 
 abbrev pub endless : List Float → ℕ → Bool
 endless outflow c = not (is_finite (get_or outflow c nan))

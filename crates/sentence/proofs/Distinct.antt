@@ -1,14 +1,13 @@
 -- Two refusals never share a sentence: the index and the number are read back from it. Assumes nothing.
 use mathlib.Core.Path.{◌≡◌, refl, sym, ap, ◌∙◌}
 use mathlib.Core.List.{List, [], ◌∷◌, ◌++◌, append_cancel_right}
-use mathlib.Core.Bool.{Bool, true, false, ◌&&◌, cond, false≢true}
+use mathlib.Core.Bool.{Bool, true, false, ◌&&◌, cond}
 use Prim.Native.Nat.{ℕ, zero, suc, ◌+◌, ◌-◌, ◌*◌, ◌/◌, ◌%◌, ◌<◌}
 use native.Mathlib.Omega.{arith}
 use native.Mathlib.Nat.{mod-lt, div-add-mod'}
 use borrow.Author.Tests.{ltb-true, ltb-false, lt-ltb, le-leb, ne_eqb, eqb-true}
 use lib.Dec.{eqb, leb, ltb}
-use Rattle.sentence.specs.Sentence.{ascii, digits, decimal, numbers, is_known, sentence, NeverShared}
-use Rattle.sentence.specs.Rows.{opening, opened}
+use Rattle.sentence.specs.Sentence.{ascii, digits, decimal, numbers, is_known, opening, sentence, NeverShared}
 use Rattle.sentence.proofs.Table.{every, each, opens}
 
 is_digit : ℕ → Bool
@@ -31,43 +30,23 @@ no_stop (x ∷ xs) = cond (eqb x 46) false (no_stop xs)
 read_on : (a : ℕ) (xs ys : List ℕ) → no_stop xs ≡ true → read a (xs ++ ys) ≡ read (after a xs) ys
 unfolding read after no_stop
 read_on a [] ys h = refl
-read_on a (x ∷ xs) ys h = go (eqb x 46) (is_digit x) h (λ p. read_on (a * 10 + (x - 48)) xs ys p) (λ p. read_on 0 xs ys p)
-  where
-    go : (s d : Bool) → cond s false (no_stop xs) ≡ true
-        → (no_stop xs ≡ true → read (a * 10 + (x - 48)) (xs ++ ys) ≡ read (after (a * 10 + (x - 48)) xs) ys)
-        → (no_stop xs ≡ true → read 0 (xs ++ ys) ≡ read (after 0 xs) ys)
-        → cond s a (cond d (read (a * 10 + (x - 48)) (xs ++ ys)) (read 0 (xs ++ ys))) ≡ read (cond d (after (a * 10 + (x - 48)) xs) (after 0 xs)) ys
-    go true d h p q = absurd (false≢true h)
-    go false true h p q = p h
-    go false false h p q = q h
+read_on a (x ∷ xs) ys h = grind (arith, h, read_on (a * 10 + (x - 48)) xs ys, read_on 0 xs ys)
 
 after-append : (a : ℕ) (xs ys : List ℕ) → after a (xs ++ ys) ≡ after (after a xs) ys
 unfolding after
 after-append a [] ys = refl
-after-append a (x ∷ xs) ys = go (is_digit x) (after-append (a * 10 + (x - 48)) xs ys) (after-append 0 xs ys)
-  where
-    go : (d : Bool) → after (a * 10 + (x - 48)) (xs ++ ys) ≡ after (after (a * 10 + (x - 48)) xs) ys → after 0 (xs ++ ys) ≡ after (after 0 xs) ys
-        → cond d (after (a * 10 + (x - 48)) (xs ++ ys)) (after 0 (xs ++ ys)) ≡ after (cond d (after (a * 10 + (x - 48)) xs) (after 0 xs)) ys
-    go true p q = p
-    go false p q = q
+after-append a (x ∷ xs) ys = grind (arith, after-append (a * 10 + (x - 48)) xs ys, after-append 0 xs ys)
 
 -- ---- a number in decimal: no full stop, and it is read as itself
+stop_later : (xs : List ℕ) (d : ℕ) → no_stop xs ≡ true → no_stop (xs ++ ((48 + d) ∷ [])) ≡ true
+unfolding no_stop
+stop_later [] d h = rw (ne_eqb (48 + d) 46 (λ e. omega (arith, e)))
+stop_later (x ∷ xs) d h = grind (arith, h, stop_later xs d)
+
 digits_stop : (k n : ℕ) → no_stop (digits k n) ≡ true
 unfolding no_stop
 digits_stop zero n = refl
-digits_stop (suc k) n = go (ltb n 10) (digits_stop k (n / 10))
-  where
-    join : (xs : List ℕ) (d : ℕ) → no_stop xs ≡ true → no_stop (xs ++ ((48 + d) ∷ [])) ≡ true
-    join [] d h = rw (ne_eqb (48 + d) 46 (λ (e : 48 + d ≡ 46). omega (arith, e)))
-    join (x ∷ xs) d h = keep (eqb x 46) h (λ p. join xs d p)
-      where
-        keep : (b : Bool) → cond b false (no_stop xs) ≡ true → (no_stop xs ≡ true → no_stop (xs ++ ((48 + d) ∷ [])) ≡ true) → cond b false (no_stop (xs ++ ((48 + d) ∷ []))) ≡ true
-        keep true e r = e
-        keep false e r = r e
-
-    go : (b : Bool) → no_stop (digits k (n / 10)) ≡ true → no_stop (cond b ((48 + n) ∷ []) (digits k (n / 10) ++ ((48 + n % 10) ∷ []))) ≡ true
-    go true r = join [] n refl
-    go false r = join (digits k (n / 10)) (n % 10) r
+digits_stop (suc k) n = grind (arith, stop_later [] n refl, stop_later (digits k (n / 10)) (n % 10) (digits_stop k (n / 10)))
 
 after_digit : (a d : ℕ) → d < 10 → after a ((48 + d) ∷ []) ≡ a * 10 + d
 unfolding after is_digit
@@ -83,7 +62,8 @@ value (suc k) n h = go (ltb n 10) refl (λ p. value k (n / 10) p)
     alone : 0 * 10 + n ≡ n
     alone = omega arith
 
-    go : (b : Bool) → ltb n 10 ≡ b → (n / 10 < k → after 0 (digits k (n / 10)) ≡ n / 10) → after 0 (cond b ((48 + n) ∷ []) (digits k (n / 10) ++ ((48 + n % 10) ∷ []))) ≡ n
+    go : (b : Bool) → ltb n 10 ≡ b → (n / 10 < k → after 0 (digits k (n / 10)) ≡ n / 10)
+        → after 0 (cond b ((48 + n) ∷ []) (digits k (n / 10) ++ ((48 + n % 10) ∷ []))) ≡ n
     go true e r = after_digit 0 n (ltb-true n 10 e) ∙ alone
     go false e r =
         let l = ltb-false n 10 e in
@@ -93,6 +73,20 @@ value (suc k) n h = go (ltb n 10) refl (λ p. value k (n / 10) p)
 read_decimal : (i : ℕ) → read 0 (decimal i ++ ascii ".") ≡ i
 unfolding read
 read_decimal i = read_on 0 (decimal i) (ascii ".") (digits_stop (suc i) i) ∙ value (suc i) i (omega arith)
+
+-- ---- the first number of a list whose sentences begin with a text, 0 where none's do
+same : List ℕ → List ℕ → Bool
+same [] [] = true
+same [] (y ∷ ys) = false
+same (x ∷ xs) [] = false
+same (x ∷ xs) (y ∷ ys) = cond (eqb x y) (same xs ys) false
+
+first_opened : List ℕ → List ℕ → ℕ
+first_opened [] text = 0
+first_opened (k ∷ ks) text = cond (same text (opening k)) k (first_opened ks text)
+
+opened : List ℕ → ℕ
+opened text = first_opened numbers text
 
 -- ---- the rows: an opening has no full stop, no digits at its end, and is its number's alone
 are_stopless : every (λ k. no_stop (opening k)) numbers ≡ true
@@ -104,7 +98,7 @@ unfolding every after is_digit
 are_ended = refl
 
 are_told_apart : every (λ k. eqb (opened (opening k)) k) numbers ≡ true
-unfolding every
+unfolding every same first_opened opened
 are_told_apart = refl
 
 number_back : (k : ℕ) → is_known k ≡ true → opened (opening k) ≡ k
@@ -121,5 +115,6 @@ index_back k i e =
 pub never_shared : NeverShared
 never_shared k j i h e f s =
     let same : i ≡ h = sym (index_back k i e) ∙ ap (read 0) s ∙ index_back j h f in
-    let openings : opening k ≡ opening j = append_cancel_right (opening k) (opening j) (decimal i ++ ascii ".") (sym (opens k i e) ∙ s ∙ opens j h f ∙ ap (λ (n : ℕ). opening j ++ (decimal n ++ ascii ".")) (sym same)) in
+    let texts = sym (opens k i e) ∙ s ∙ opens j h f ∙ ap (λ n. opening j ++ (decimal n ++ ascii ".")) (sym same) in
+    let openings = append_cancel_right (opening k) (opening j) (decimal i ++ ascii ".") texts in
     (sym (number_back k e) ∙ ap opened openings ∙ number_back j f, same)

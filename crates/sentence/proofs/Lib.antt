@@ -1,4 +1,4 @@
-pub mod Decimal
+pub mod Digits
 pub mod Place
 pub mod Table
 pub mod Distinct

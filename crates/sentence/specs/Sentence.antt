@@ -1,5 +1,8 @@
 -- The sentence of a refusal: the phrase of its number, ` at `, its index in decimal and a full stop, as ASCII codes. Definitions only.
-use Rattle.std.specs.Prelude.{◌≡◌, List, [], ◌∷◌, ◌++◌, Bool, true, false, cond, ℕ, zero, suc, ◌+◌, ◌-◌, ◌/◌, ◌%◌, ◌^◌, ◌<◌, ◌≤◌, eqb, ltb, leb, length, get_or, drop}
+use Rattle.std.specs.Prelude.{◌≡◌, List, [], ◌∷◌, ◌++◌, Bool, true, false, cond, length, get_or, drop}
+use Rattle.std.specs.Prelude.{ℕ, zero, suc, ◌+◌, ◌-◌, ◌/◌, ◌%◌, ◌^◌, ◌<◌, ◌≤◌, eqb, ltb, leb}
+use Rattle.refusal.specs.declared.Reason.{Reason}
+use Rattle.refusal.specs.Numbers.{number_of}
 use Prim.Native.Char.{code}
 use Prim.Native.String.{String, [] as none, ◌∷◌ as ◌then◌}
 
@@ -28,6 +31,12 @@ is_among (n ∷ ns) k = cond (eqb k n) true (is_among ns k)
 abbrev pub is_known : ℕ → Bool
 is_known k = is_among numbers k
 
+-- the table's numbers are those of the reasons
+abbrev pub NumbersOfReasons : Type 0
+NumbersOfReasons =
+    ((reason : Reason) → is_known (number_of reason) ≡ true)
+    × ((n : ℕ) → is_known n ≡ true → (reason : Reason) × (number_of reason ≡ n))
+
 -- the phrases of 1 to 12
 abbrev pub phrases : List (List ℕ)
 phrases =
@@ -48,6 +57,10 @@ phrases =
 -- a later number is named itself
 abbrev pub phrase : ℕ → List ℕ
 phrase k = cond (leb k 12) (get_or phrases (k - 1) []) (ascii "refusal " ++ decimal k)
+
+-- what a number's sentences begin with
+abbrev pub opening : ℕ → List ℕ
+opening k = phrase k ++ ascii " at "
 
 -- ---- the sentence of number k and index i; none for a number outside the table
 unfoldable pub sentence : ℕ → ℕ → List ℕ

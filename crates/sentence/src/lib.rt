@@ -1,103 +1,68 @@
 // The sentence of a refusal, for a learner to read.
 #![tactic(auto)]
 
-ghost use Rattle.std.specs.Prelude.{◌≡◌, [], ◌∷◌, ◌++◌, ◌+◌, ◌≤◌, ◌<◌, length, take, drop};
-ghost use Rattle.sentence.specs.Sentence.{decimal, SentenceCall};
-ghost use Rattle.sentence.specs.Rows.{checks, groups, opened, NoneOf};
+ghost use Rattle.std.specs.Prelude.{◌≡◌, ◌≤◌, length};
+ghost use Rattle.refusal.specs.Numbers.{number_of};
+ghost use Rattle.sentence.specs.Sentence.{decimal, opening, SentenceCall};
+
+use itoa::Buffer;
+use refusal::{Reason, Refusal};
 
 // The sentence of a refusal, at the start of `out` where there is room for all of it. The answer is its
 // length, 0 where the number is not in the table.
 pub fn sentence(number: u64, index: usize, out: &mut [u8]) -> usize
     ensures call { SentenceCall number index out.old result out.new }
 {
-    match number {
-        1 => tell(number, index, b"bad size at ", out),
-        2 => tell(number, index, b"wrong length at ", out),
-        3 => tell(number, index, b"other mesh at ", out),
-        4 => tell(number, index, b"bad face at ", out),
-        5 => tell(number, index, b"broken chain at ", out),
-        6 => tell(number, index, b"bad link at ", out),
-        _ => tell_arithmetic(number, index, out),
+    match Reason::try_from(number) {
+        Ok(reason) => tell(reason.at(index), out),
+        Err(_) => 0,
     }
 }
 
-// The same from 7 on.
-fn tell_arithmetic(number: u64, index: usize, out: &mut [u8]) -> usize
-    requires { NoneOf (checks ∷ []) number }
-    ensures call { SentenceCall number index out.old result out.new }
+// The sentence of a reason and an index, likewise.
+fn tell(refusal: Refusal, out: &mut [u8]) -> usize
+    ensures call { SentenceCall (number_of refusal.reason) refusal.index out.old result out.new }
 {
-    match number {
-        7 => tell(number, index, b"too near at ", out),
-        8 => tell(number, index, b"singular stencil at ", out),
-        9 => tell(number, index, b"bad coefficient at ", out),
-        10 => tell(number, index, b"no condition at ", out),
-        11 => tell(number, index, b"bad diagonal at ", out),
-        12 => tell(number, index, b"bad volume at ", out),
-        _ => tell_none(number, index, out),
-    }
-}
-
-// A number outside the table has no sentence.
-fn tell_none(number: u64, index: usize, out: &mut [u8]) -> usize
-    requires { NoneOf groups number }
-    ensures call { SentenceCall number index out.old result out.new }
-{
-    0
-}
-
-// The sentence of the number that `phrase` begins sentences of.
-fn tell(number: u64, index: usize, phrase: &[u8], out: &mut [u8]) -> usize
-    requires { (number ≡ opened phrase.now) × (0 < number) }
-    ensures call { SentenceCall number index out.old result out.new }
-{
-    let at = phrase.len();
-    let end = at + width(index);
+    let mut buffer = Buffer::new();
+    let digits = decimal(refusal.index, &mut buffer);
+    let opening = opening(refusal.reason);
+    let start = opening.len();
+    let end = start + digits.len();
     let needed = end + 1;
     if needed <= out.len() {
-        put_phrase(phrase, out);
-        put_decimal(index, at, end, out);
+        out[..start].copy_from_slice(opening);
+        out[start..end].copy_from_slice(digits);
         out[end] = b'.';
     }
     needed
 }
 
-// How many digits n has.
-fn width(n: usize) -> usize
-    ensures { (result ≡ length (decimal n)) × (result ≤ 20) }
+// An index in decimal.
+#[tactic(auto, using(crate::proofs::Digits::as_printed))]
+fn decimal(index: usize, buffer: &mut Buffer) -> &[u8]
+    ensures text { result.now ≡ decimal index }
+    ensures short { length result.now ≤ 20 }
 {
-    let mut digits = 1;
-    let mut rest = n;
-    while 10 <= rest {
-        rest /= 10;
-        digits += 1;
-    }
-    digits
+    buffer.format(index).as_bytes()
 }
 
-// A phrase at the start of a slice.
-fn put_phrase(phrase: &[u8], out: &mut [u8])
-    requires { length phrase.now ≤ length out.old }
-    ensures { let text = phrase.now in
-        out.new ≡ text ++ drop (length text) out.old }
+// What the sentences of a reason begin with.
+fn opening(reason: Reason) -> &'static [u8]
+    ensures text { result.now ≡ opening (number_of reason) }
+    ensures short { length result.now ≤ 20 }
 {
-    let mut i = 0;
-    while i < phrase.len() {
-        out[i] = phrase[i];
-        i += 1;
-    }
-}
-
-// The digits of n from `at` up to `end`, the last first.
-fn put_decimal(n: usize, at: usize, end: usize, out: &mut [u8])
-    requires { (at + length (decimal n) ≡ end) × (end ≤ length out.old) }
-    ensures { let old = out.old in
-        out.new ≡ take at old ++ (decimal n ++ drop end old) }
-{
-    let mut rest = n;
-    let mut place = end;
-    while at < place {
-        place -= 1;
-        out[place] = b'0' + (rest % 10) as u8;
-        rest /= 10;
+    match reason {
+        Reason::BadSize => b"bad size at ",
+        Reason::WrongLength => b"wrong length at ",
+        Reason::OtherMesh => b"other mesh at ",
+        Reason::BadFace => b"bad face at ",
+        Reason::BrokenChain => b"broken chain at ",
+        Reason::BadLink => b"bad link at ",
+        Reason::TooNear => b"too near at ",
+        Reason::SingularStencil => b"singular stencil at ",
+        Reason::BadCoefficient => b"bad coefficient at ",
+        Reason::NoCondition => b"no condition at ",
+        Reason::BadDiagonal => b"bad diagonal at ",
+        Reason::BadVolume => b"bad volume at ",
     }
 }

@@ -17,16 +17,11 @@ fn call(
     slice: &mut [u8],
 ) -> io::Result<()> {
     let needed = sentence::sentence(number, index, slice);
-    pattern::print::decimal(rt, number)?;
-    pattern::print::text(rt, b" ")?;
-    pattern::print::decimal(rt, index as u64)?;
-    pattern::print::text(rt, b" ")?;
-    pattern::print::text(rt, name)?;
-    pattern::print::text(rt, b": needs ")?;
-    pattern::print::decimal(rt, needed as u64)?;
-    pattern::print::text(rt, b" |")?;
-    pattern::print::text(rt, slice)?;
-    pattern::print::text(rt, b"|\n")
+    print!(rt; "{number} {index} ")?;
+    rt.write_all(name)?;
+    print!(rt; ": needs {needed} |")?;
+    rt.write_all(slice)?;
+    println!(rt; "|")
 }
 
 // A call with the first bytes of a slice, where it has so many.

@@ -4,13 +4,11 @@ use mathlib.Core.List.{List}
 use Prim.Native.Nat.{ℕ}
 use lib.ListN.{length}
 use lib.Ieee.{Float}
-use Rattle.mesh.specs.Answers.{or_else}
+use Rattle.mesh.specs.Answers.{or_else, Answer, accepted}
 use Rattle.mesh.specs.Pass.{handed_out, if_refused}
 use Rattle.mesh.specs.Mesh.{Conditions}
-use Rattle.mesh.specs.declared.Answer.{Answer}
-use Rattle.mesh.specs.declared.Answer.TheVariants.{Accepted, Refused}
 use Rattle.mesh.specs.declared.Counts.{Counts}
-use Rattle.passes.proofs.Stages.{handed_out_lem, never_accepted}
+use Rattle.passes.proofs.Stages.{handed_out_lem}
 use Rattle.corrector.specs.Correction.{Correcting, correction_answer, corrected_fluxes}
 use Rattle.corrector.specs.Promise.{Promise, boundary_of}
 use Rattle.corrector.proofs.Promised.{promised}
@@ -21,7 +19,7 @@ module _ (n : Counts) (adjacency : List ℕ) (k : Conditions) (l : Fields) (old 
   abbrev lent : Correcting
   lent = correcting_by adjacency k l
 
-  pub after_work : (r : Answer) (new : List Float) → checked ≡ Accepted → r ≡ correction_answer lent → new ≡ handed_out r (length l.predicted.values) (corrected_fluxes lent) → CorrectionCall n adjacency k l old r new × Promised r adjacency k l new
+  pub after_work : (r : Answer) (new : List Float) → checked ≡ accepted → r ≡ correction_answer lent → new ≡ handed_out r (length l.predicted.values) (corrected_fluxes lent) → CorrectionCall n adjacency k l old r new × Promised r adjacency k l new
   unfolding or_else if_refused
   after_work r new passed e o =
       let a = sym is ∙ passed in
@@ -29,9 +27,3 @@ module _ (n : Counts) (adjacency : List ℕ) (k : Conditions) (l : Fields) (old 
         record { answer = rw a e; out = rw a (o ∙ ap (λ (i : ℕ). handed_out r i (corrected_fluxes lent)) p.2) },
         λ ok. subst (Promise (boundary_of lent)) (sym (o ∙ handed_out_lem _ _ _ ok)) (promised lent p.0 (sym e ∙ ok)),
       )
-
-  pub after_refusal : (j i : ℕ) → checked ≡ Refused j i → CorrectionCall n adjacency k l old (Refused j i) old × Promised (Refused j i) adjacency k l old
-  unfolding or_else if_refused
-  after_refusal j i refused =
-      let a = sym is ∙ refused in
-      (record { answer = rw a; out = rw a }, λ ok. absurd (never_accepted _ _ ok))

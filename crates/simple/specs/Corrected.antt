@@ -1,13 +1,12 @@
 -- The entry that corrects the flux of every face: its checks, its answer, and what its output holds. Definitions only.
+use Rattle.refusal.specs.declared.Reason.TheVariants.{BadSize, WrongLength, OtherMesh}
 use Rattle.std.specs.Prelude.{◌≡◌, List, [], ◌∷◌, Bool, ℕ, ◌*◌, eqb, length, Float}
-use Rattle.mesh.specs.Answers.{pass, first_of, or_else}
+use Rattle.mesh.specs.Answers.{pass, first_of, or_else, Answer, accepted}
 use Rattle.mesh.specs.Checks.{sizes_ok}
 use Rattle.mesh.specs.Lent.{Slice}
 use Rattle.mesh.specs.Mesh.{Conditions, conditions_sized, links}
 use Rattle.mesh.specs.Pass.{handed_out, if_refused}
 use Rattle.chain.specs.Search.{every_of}
-use Rattle.mesh.specs.declared.Answer.{Answer}
-use Rattle.mesh.specs.declared.Answer.TheVariants.{Accepted}
 use Rattle.mesh.specs.declared.Counts.{Counts}
 use Rattle.corrector.specs.Correction.{Correcting, correcting, correction_answer, corrected_fluxes}
 use Rattle.coupling.specs.Grid.{Field, field_lent}
@@ -52,9 +51,9 @@ correction_numbers n k l =
 unfoldable pub correction_checks : Counts → List ℕ → Conditions → Fields → ℕ → Answer
 correction_checks n adjacency k l outs =
     first_of
-    (pass 1 (sizes_ok n)
-    ∷ pass 2 (every_of (correction_sizes n adjacency k l outs))
-    ∷ pass 3 (every_of (correction_numbers n k l))
+    (pass BadSize (sizes_ok n)
+    ∷ pass WrongLength (every_of (correction_sizes n adjacency k l outs))
+    ∷ pass OtherMesh (every_of (correction_numbers n k l))
     ∷ links n.cells adjacency k.codes
     ∷ [])
 
@@ -66,4 +65,4 @@ pub record CorrectionCall (n : Counts) (adjacency : List ℕ) (k : Conditions) (
 
 -- kept and opposite fluxes, of an accepted call
 abbrev pub Promised : Answer → List ℕ → Conditions → Fields → List Float → Type 0
-Promised r adjacency k l new = r ≡ Accepted → Promise (boundary_of (correcting_by adjacency k l)) new
+Promised r adjacency k l new = r ≡ accepted → Promise (boundary_of (correcting_by adjacency k l)) new

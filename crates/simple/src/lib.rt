@@ -5,10 +5,11 @@
 
 ghost use Rattle.std.specs.Prelude.{◌≡◌, ◌≤◌};
 ghost use Rattle.mesh.specs.Answers.{at, or_else};
+ghost use Rattle.refusal.specs.declared.Reason.TheVariants.{BadFace, BrokenChain};
 ghost use Rattle.chain.specs.Chains.{lowest_broken};
 ghost use Rattle.mesh.specs.Checks.{largest_count, lowest_bad_face};
 ghost use Rattle.mesh.specs.Lent.{conditions_lent};
-ghost use Rattle.chain.specs.declared.walk.Form.TheVariants.{Single};
+ghost use Rattle.chain.specs.declared.Form.TheVariants.{Single};
 ghost use Rattle.numerics.specs.Slices.{slices_before, from_cell};
 ghost use Rattle.predictor.specs.Boundary.{boundary_checks, BoundaryCall};
 ghost use Rattle.predictor.specs.Coefficients.{coefficient_checks, CoefficientCall};
@@ -19,7 +20,9 @@ ghost use Rattle.corrector.specs.Metrics.{metrics_checks, MetricsCall};
 ghost use Rattle.predictor.specs.Prediction.{flow_fields_lent, sizes, flow_sized, prediction_checks, PredictionCall};
 ghost use Rattle.corrector.specs.Velocity.{velocity_checks, VelocityCall};
 
-use mesh::{Answer, Counts};
+use chain::Form;
+use mesh::{Answer, Conditions, Counts};
+use refusal::Reason;
 
 // Check 2, of adjacency, geometry and places.
 fn grid_sized(counts: Counts, adjacency: &[usize], geometry: &[f64], places: &[f64]) -> bool
@@ -31,27 +34,25 @@ fn grid_sized(counts: Counts, adjacency: &[usize], geometry: &[f64], places: &[f
 }
 
 // In each check `outs` is the length of the output.
+#[tactic(auto, using(mesh::proofs::Facts::refuses, mesh::proofs::Facts::goes_on, mesh::proofs::Facts::or_accepted), unfolding(mesh::specs::Answers::first_of, corrector::specs::Diagonal::diagonal_checks))]
 fn check_diagonal(counts: Counts, diagonal: &[f64], outs: usize) -> Answer
     ensures { result ≡ diagonal_checks counts diagonal.now outs }
 {
-    mesh::shape(
-        mesh::sizes_ok(counts),
-        (diagonal.len() == counts.cells) & (outs == counts.cells),
-        true,
-    )
+    let sized = (diagonal.len() == counts.cells) & (outs == counts.cells);
+    mesh::pass(Reason::BadSize, mesh::sizes_ok(counts))?;
+    mesh::pass(Reason::WrongLength, sized)
 }
 
 // One over the momentum diagonal of each cell.
+#[tactic(auto, using(mesh::proofs::Facts::refuses), unfolding(mesh::specs::Answers::or_else, mesh::specs::Pass::if_refused))]
 pub fn momentum_inverse_diagonal(counts: Counts, diagonal: &[f64], out: &mut [f64]) -> Answer
     ensures call { DiagonalCall counts diagonal.now out.old result out.new }
 {
-    let a = check_diagonal(counts, diagonal, out.len());
-    match a {
-        Answer::Accepted => corrector::inner::diagonal::momentum_inverse_diagonal(diagonal, out),
-        Answer::Refused(k, i) => Answer::Refused(k, i),
-    }
+    check_diagonal(counts, diagonal, out.len())?;
+    corrector::inner::diagonal::momentum_inverse_diagonal(diagonal, out)
 }
 
+#[tactic(auto, using(mesh::proofs::Facts::refuses, mesh::proofs::Facts::goes_on, mesh::proofs::Facts::or_accepted), unfolding(mesh::specs::Answers::first_of, predictor::specs::Coefficients::coefficient_checks))]
 fn check_coefficients(
     counts: Counts,
     adjacency: &[usize],
@@ -67,14 +68,17 @@ fn check_coefficients(
     let sized = grid_sized(counts, adjacency, geometry, places)
         & (responses.len() == counts.cells)
         & (outs == counts.faces);
-    let a = mesh::shape(mesh::sizes_ok(counts), sized, response == counts.mesh);
-    match a {
-        Answer::Accepted => mesh::at(4, mesh::lowest_bad_face(counts.cells, adjacency)),
-        Answer::Refused(k, i) => Answer::Refused(k, i),
-    }
+    mesh::pass(Reason::BadSize, mesh::sizes_ok(counts))?;
+    mesh::pass(Reason::WrongLength, sized)?;
+    mesh::pass(Reason::OtherMesh, response == counts.mesh)?;
+    mesh::at(
+        Reason::BadFace,
+        mesh::lowest_bad_face(counts.cells, adjacency),
+    )
 }
 
 // The coefficient of each face with two cells; +0.0 at the others.
+#[tactic(auto, using(mesh::proofs::Facts::refuses), unfolding(mesh::specs::Answers::or_else, mesh::specs::Pass::if_refused))]
 pub fn pressure_face_coefficients(
     counts: Counts,
     adjacency: &[usize],
@@ -87,7 +91,7 @@ pub fn pressure_face_coefficients(
     ensures call { let m = grid_lent adjacency geometry places in
         CoefficientCall counts m (field_lent response responses) out.old result out.new }
 {
-    let a = check_coefficients(
+    check_coefficients(
         counts,
         adjacency,
         geometry,
@@ -95,15 +99,13 @@ pub fn pressure_face_coefficients(
         response,
         responses,
         out.len(),
-    );
-    match a {
-        Answer::Accepted => predictor::inner::coefficients::pressure_face_coefficients(
-            adjacency, geometry, places, responses, out,
-        ),
-        Answer::Refused(k, i) => Answer::Refused(k, i),
-    }
+    )?;
+    predictor::inner::coefficients::pressure_face_coefficients(
+        adjacency, geometry, places, responses, out,
+    )
 }
 
+#[tactic(auto, using(mesh::proofs::Facts::refuses, mesh::proofs::Facts::goes_on, mesh::proofs::Facts::or_accepted), unfolding(mesh::specs::Answers::first_of, predictor::specs::Boundary::boundary_checks))]
 fn check_boundary(
     counts: Counts,
     adjacency: &[usize],
@@ -120,20 +122,25 @@ fn check_boundary(
         let k = conditions_lent number codes values in
         result ≡ boundary_checks counts m k (field_lent response responses) outs }
 {
+    let conditions = Conditions {
+        number,
+        codes,
+        values,
+    };
     let sized = grid_sized(counts, adjacency, geometry, places)
-        & mesh::conditions_sized(counts.faces, codes, values)
+        & conditions.is_sized(counts.faces)
         & (responses.len() == counts.cells)
         & (outs == counts.faces);
     let same = (number == counts.mesh) & (response == counts.mesh);
-    let a = mesh::shape(mesh::sizes_ok(counts), sized, same);
-    match a {
-        Answer::Accepted => mesh::check_links(counts.cells, adjacency, codes),
-        Answer::Refused(k, i) => Answer::Refused(k, i),
-    }
+    mesh::pass(Reason::BadSize, mesh::sizes_ok(counts))?;
+    mesh::pass(Reason::WrongLength, sized)?;
+    mesh::pass(Reason::OtherMesh, same)?;
+    mesh::check_links(counts.cells, adjacency, codes)
 }
 
 // The coefficient of each face with two cells, with a link, or with a fixed value; +0.0 at the
 // others. `number` is the mesh number of the conditions.
+#[tactic(auto, using(mesh::proofs::Facts::refuses), unfolding(mesh::specs::Answers::or_else, mesh::specs::Pass::if_refused))]
 pub fn pressure_face_coefficients_with_boundary(
     counts: Counts,
     adjacency: &[usize],
@@ -150,7 +157,7 @@ pub fn pressure_face_coefficients_with_boundary(
         let k = conditions_lent number codes values in
         BoundaryCall counts m k (field_lent response responses) out.old result out.new }
 {
-    let a = check_boundary(
+    check_boundary(
         counts,
         adjacency,
         geometry,
@@ -161,13 +168,10 @@ pub fn pressure_face_coefficients_with_boundary(
         response,
         responses,
         out.len(),
-    );
-    match a {
-        Answer::Accepted => predictor::inner::boundary::pressure_face_coefficients_with_boundary(
-            adjacency, geometry, places, codes, values, responses, out,
-        ),
-        Answer::Refused(k, i) => Answer::Refused(k, i),
-    }
+    )?;
+    predictor::inner::boundary::pressure_face_coefficients_with_boundary(
+        adjacency, geometry, places, codes, values, responses, out,
+    )
 }
 
 // Check 2, of the fields of a prediction and of its outputs, which have so many numbers.
@@ -191,20 +195,19 @@ fn flow_sized(
 }
 
 // The checks 4 and 5, of a mesh of not too many cells and a stencil.
+#[tactic(auto, using(mesh::proofs::Facts::refuses, mesh::proofs::Facts::goes_on, mesh::proofs::Facts::or_accepted))]
 fn check_chains(cells: usize, adjacency: &[usize], starts: &[usize], equations: &[usize]) -> Answer
     requires { cells ≤ largest_count }
     ensures checked { let face = lowest_bad_face cells adjacency.now in
         let cell = lowest_broken (from_cell cells) equations.now Single starts.now in
-        result ≡ or_else (at 4 face) (at 5 cell) }
+        result ≡ or_else (at BadFace face) (at BrokenChain cell) }
 {
-    let face = mesh::at(4, mesh::lowest_bad_face(cells, adjacency));
-    let cell = mesh::at(
-        5,
-        chain::lowest_broken_equation(cells + 2, starts, equations),
-    );
-    mesh::or_else(face, cell)
+    mesh::at(Reason::BadFace, mesh::lowest_bad_face(cells, adjacency))?;
+    let cell = chain::lowest_broken(cells + 2, equations, Form::Single, starts);
+    mesh::at(Reason::BrokenChain, cell)
 }
 
+#[tactic(auto, using(mesh::proofs::Facts::refuses, mesh::proofs::Facts::goes_on, mesh::proofs::Facts::or_accepted), unfolding(mesh::specs::Answers::first_of, predictor::specs::Prediction::prediction_checks))]
 fn check_prediction(
     counts: Counts,
     adjacency: &[usize],
@@ -255,19 +258,18 @@ fn check_prediction(
         & (pressure == counts.mesh)
         & (response == counts.mesh)
         & (wall == counts.mesh);
-    let a = mesh::shape(
+    mesh::pass(
+        Reason::BadSize,
         mesh::sizes_ok(counts) & (records <= mesh::LARGEST_COUNT),
-        sized,
-        same,
-    );
-    match a {
-        Answer::Accepted => check_chains(counts.cells, adjacency, starts, equations),
-        Answer::Refused(k, i) => Answer::Refused(k, i),
-    }
+    )?;
+    mesh::pass(Reason::WrongLength, sized)?;
+    mesh::pass(Reason::OtherMesh, same)?;
+    check_chains(counts.cells, adjacency, starts, equations)
 }
 
 // The gradient of the pressure from the stencil, and the flux that is predicted with it: of a face
 // with two cells that of Rhie and Chow, of any other the wall flux as lent.
+#[tactic(auto, using(mesh::proofs::Facts::refuses), unfolding(mesh::specs::Answers::or_else, mesh::specs::Pass::if_refused))]
 pub fn rhie_chow_predicted_flux(
     counts: Counts,
     adjacency: &[usize],
@@ -296,7 +298,7 @@ pub fn rhie_chow_predicted_flux(
         let before = gradient.old in
         PredictionCall counts m stencil records s l before out.old result gradient.new out.new }
 {
-    let a = check_prediction(
+    check_prediction(
         counts,
         adjacency,
         geometry,
@@ -317,19 +319,15 @@ pub fn rhie_chow_predicted_flux(
         walls,
         gradient.len(),
         out.len(),
-    );
-    match a {
-        Answer::Accepted => {
-            let mut none = [0.0; 0];
-            predictor::inner::prediction::rhie_chow_predicted_flux(
-                adjacency, geometry, places, records, starts, equations, weights, inverses,
-                velocities, pressures, responses, walls, &mut none, gradient, out,
-            )
-        }
-        Answer::Refused(k, i) => Answer::Refused(k, i),
-    }
+    )?;
+    let mut none = [0.0; 0];
+    predictor::inner::prediction::rhie_chow_predicted_flux(
+        adjacency, geometry, places, records, starts, equations, weights, inverses, velocities,
+        pressures, responses, walls, &mut none, gradient, out,
+    )
 }
 
+#[tactic(auto, using(mesh::proofs::Facts::refuses, mesh::proofs::Facts::goes_on, mesh::proofs::Facts::or_accepted), unfolding(mesh::specs::Answers::first_of, crate::specs::Corrected::correction_checks))]
 fn check_correction(
     counts: Counts,
     adjacency: &[usize],
@@ -348,7 +346,12 @@ fn check_correction(
         let l = fields_lent prediction predicted coefficient coefficients correction corrections in
         result ≡ correction_checks counts adjacency.now k l outs }
 {
-    let sized = mesh::conditions_sized(counts.faces, codes, values)
+    let conditions = Conditions {
+        number,
+        codes,
+        values,
+    };
+    let sized = conditions.is_sized(counts.faces)
         & mesh::is_sized(adjacency.len(), 2, counts.faces)
         & (predicted.len() == counts.faces)
         & (coefficients.len() == counts.faces)
@@ -358,16 +361,16 @@ fn check_correction(
         & (prediction == counts.mesh)
         & (coefficient == counts.mesh)
         & (correction == counts.mesh);
-    let a = mesh::shape(mesh::sizes_ok(counts), sized, same);
-    match a {
-        Answer::Accepted => mesh::check_links(counts.cells, adjacency, codes),
-        Answer::Refused(k, i) => Answer::Refused(k, i),
-    }
+    mesh::pass(Reason::BadSize, mesh::sizes_ok(counts))?;
+    mesh::pass(Reason::WrongLength, sized)?;
+    mesh::pass(Reason::OtherMesh, same)?;
+    mesh::check_links(counts.cells, adjacency, codes)
 }
 
 // The predicted flux of each face less its coefficient times the difference of the corrections on
 // its two sides; an unlinked one-cell zero-gradient face keeps its flux. `number` is the mesh number
 // of the conditions.
+#[tactic(auto, using(mesh::proofs::Facts::refuses), unfolding(mesh::specs::Answers::or_else, mesh::specs::Pass::if_refused))]
 pub fn correct_face_flux_with_boundary(
     counts: Counts,
     adjacency: &[usize],
@@ -389,7 +392,7 @@ pub fn correct_face_flux_with_boundary(
         let l = fields_lent prediction predicted coefficient coefficients correction corrections in
         Promised result adjacency.now k l out.new }
 {
-    let a = check_correction(
+    check_correction(
         counts,
         adjacency,
         number,
@@ -402,23 +405,21 @@ pub fn correct_face_flux_with_boundary(
         correction,
         corrections,
         out.len(),
-    );
-    match a {
-        Answer::Accepted => corrector::inner::correction::correct_face_flux(
-            adjacency,
-            codes,
-            values,
-            predicted,
-            coefficients,
-            corrections,
-            out,
-        ),
-        Answer::Refused(k, i) => Answer::Refused(k, i),
-    }
+    )?;
+    corrector::inner::correction::correct_face_flux(
+        adjacency,
+        codes,
+        values,
+        predicted,
+        coefficients,
+        corrections,
+        out,
+    )
 }
 
 // The same in one slice, which holds the predicted flux before the call and the corrected flux after it.
 // Refused by a check it keeps the predicted flux; refused by arithmetic it is +0.0 throughout.
+#[tactic(auto, using(mesh::proofs::Facts::refuses), unfolding(mesh::specs::Answers::or_else, mesh::specs::Pass::if_refused))]
 pub fn correct_face_flux_in_place(
     counts: Counts,
     adjacency: &[usize],
@@ -438,7 +439,7 @@ pub fn correct_face_flux_in_place(
         let promise = Promised result adjacency.now k l flux.new in
         call × promise }
 {
-    let a = check_correction(
+    check_correction(
         counts,
         adjacency,
         number,
@@ -451,20 +452,18 @@ pub fn correct_face_flux_in_place(
         correction,
         corrections,
         flux.len(),
-    );
-    match a {
-        Answer::Accepted => inplace::inner::correct_face_flux_in_place(
-            adjacency,
-            codes,
-            values,
-            coefficients,
-            corrections,
-            flux,
-        ),
-        Answer::Refused(k, i) => Answer::Refused(k, i),
-    }
+    )?;
+    inplace::inner::correct_face_flux_in_place(
+        adjacency,
+        codes,
+        values,
+        coefficients,
+        corrections,
+        flux,
+    )
 }
 
+#[tactic(auto, using(mesh::proofs::Facts::refuses, mesh::proofs::Facts::goes_on, mesh::proofs::Facts::or_accepted), unfolding(mesh::specs::Answers::first_of, corrector::specs::Velocity::velocity_checks))]
 fn check_velocity(
     counts: Counts,
     velocity: u64,
@@ -482,10 +481,13 @@ fn check_velocity(
         & mesh::is_sized(gradients.len(), 3, counts.cells)
         & mesh::is_sized(outs, 3, counts.cells);
     let same = (velocity == counts.mesh) & (response == counts.mesh) & (gradient == counts.mesh);
-    mesh::shape(mesh::sizes_ok(counts), sized, same)
+    mesh::pass(Reason::BadSize, mesh::sizes_ok(counts))?;
+    mesh::pass(Reason::WrongLength, sized)?;
+    mesh::pass(Reason::OtherMesh, same)
 }
 
 // The velocity of each cell less its response times the gradient.
+#[tactic(auto, using(mesh::proofs::Facts::refuses), unfolding(mesh::specs::Answers::or_else, mesh::specs::Pass::if_refused))]
 pub fn correct_cell_velocity_from_gradient(
     counts: Counts,
     velocity: u64,
@@ -500,7 +502,7 @@ pub fn correct_cell_velocity_from_gradient(
         let g = field_lent gradient gradients in
         VelocityCall counts v (field_lent response responses) g out.old result out.new }
 {
-    let a = check_velocity(
+    check_velocity(
         counts,
         velocity,
         velocities,
@@ -509,15 +511,13 @@ pub fn correct_cell_velocity_from_gradient(
         gradient,
         gradients,
         out.len(),
-    );
-    match a {
-        Answer::Accepted => corrector::inner::velocity::correct_cell_velocity_from_gradient(
-            velocities, responses, gradients, out,
-        ),
-        Answer::Refused(k, i) => Answer::Refused(k, i),
-    }
+    )?;
+    corrector::inner::velocity::correct_cell_velocity_from_gradient(
+        velocities, responses, gradients, out,
+    )
 }
 
+#[tactic(auto, using(mesh::proofs::Facts::refuses, mesh::proofs::Facts::goes_on, mesh::proofs::Facts::or_accepted), unfolding(mesh::specs::Answers::first_of, corrector::specs::Metrics::metrics_checks))]
 fn check_metrics(
     counts: Counts,
     adjacency: &[usize],
@@ -534,14 +534,17 @@ fn check_metrics(
         & (flux.len() == counts.faces)
         & (outs == counts.cells)
         & (two == 2);
-    let a = mesh::shape(mesh::sizes_ok(counts), sized, number == counts.mesh);
-    match a {
-        Answer::Accepted => mesh::at(4, mesh::lowest_bad_face(counts.cells, adjacency)),
-        Answer::Refused(k, i) => Answer::Refused(k, i),
-    }
+    mesh::pass(Reason::BadSize, mesh::sizes_ok(counts))?;
+    mesh::pass(Reason::WrongLength, sized)?;
+    mesh::pass(Reason::OtherMesh, number == counts.mesh)?;
+    mesh::at(
+        Reason::BadFace,
+        mesh::lowest_bad_face(counts.cells, adjacency),
+    )
 }
 
 // The outflow of each cell, and in `metrics` their root mean square and the largest divergence.
+#[tactic(auto, using(mesh::proofs::Facts::refuses), unfolding(mesh::specs::Answers::or_else, mesh::specs::Pass::if_refused))]
 pub fn continuity_metrics(
     counts: Counts,
     adjacency: &[usize],
@@ -556,7 +559,7 @@ pub fn continuity_metrics(
         let sums = outflow.old in
         MetricsCall counts a p (field_lent number flux) sums metrics.old result outflow.new metrics.new }
 {
-    let a = check_metrics(
+    check_metrics(
         counts,
         adjacency,
         places,
@@ -564,11 +567,6 @@ pub fn continuity_metrics(
         flux,
         outflow.len(),
         metrics.len(),
-    );
-    match a {
-        Answer::Accepted => corrector::inner::metrics::continuity_metrics(
-            adjacency, places, flux, outflow, metrics,
-        ),
-        Answer::Refused(k, i) => Answer::Refused(k, i),
-    }
+    )?;
+    corrector::inner::metrics::continuity_metrics(adjacency, places, flux, outflow, metrics)
 }

@@ -1,14 +1,14 @@
 -- A stencil as it is built: the records so far, in the slices that they are handed out in, and the normal matrix of the cell under way. Definitions only.
-use Rattle.std.specs.Prelude.{List, [], ◌∷◌, cond, ℕ, ◌+◌, ◌*◌, ltb, set, Float}
+use Rattle.std.specs.Prelude.{List, [], ◌∷◌, cond, ℕ, ◌+◌, ◌*◌, ltb, set, Float, Result, Ok, Err}
+use Rattle.refusal.specs.Numbers.{refusal}
+use Rattle.refusal.specs.declared.Reason.TheVariants.{BadSize}
+use Rattle.refusal.specs.declared.Refusal.{Refusal}
 use Rattle.mesh.specs.Lent.{MutSlice}
 use Rattle.vector.specs.declared.Vec3.{Vec3}
 use Rattle.matrix.specs.declared.Normal.{Normal}
 use Rattle.stencil.specs.declared.inner.build.Equation.{Equation}
 use Rattle.stencil.specs.declared.inner.build.Progress.{Progress}
-use Rattle.stencil.specs.declared.inner.build.Stage.{Stage}
-use Rattle.stencil.specs.declared.inner.build.Stage.TheVariants.{Halted, Going}
-use Rattle.stencil.specs.declared.inner.build.Finish.{Finish}
-use Rattle.stencil.specs.declared.inner.build.Finish.TheVariants.{Failed, Done}
+use Rattle.stencil.specs.declared.inner.build.Solution.{Solution}
 
 pub record Building : Type 0 where
   pub used : ℕ
@@ -39,17 +39,16 @@ with_inverse b i = solved b.used b.equations b.weights i
 -- ---- steps
 
 -- a refusal, or what it goes on with
-pub data Course (A : Type 0) : Type 0 where
-  stopped : ℕ → ℕ → Course A
-  going : A → Course A
+abbrev pub Course : Type 0 → Type 0
+Course A = Result A Refusal
 
-unfoldable pub and_then : {A B : Type 0} → Course A → (A → Course B) → Course B
-and_then (stopped k i) g = stopped k i
-and_then (going b) g = g b
+abbrev pub and_then : {A B : Type 0} → Course A → (A → Course B) → Course B
+and_then (Err e) g = Err e
+and_then (Ok b) g = g b
 
 -- one step for each item of a list
-unfoldable pub over_all : (ℕ → Building → Course Building) → List ℕ → Building → Course Building
-over_all step [] b = going b
+abbrev pub over_all : (ℕ → Building → Course Building) → List ℕ → Building → Course Building
+over_all step [] b = Ok b
 over_all step (i ∷ is) b = and_then (step i b) (over_all step is)
 
 -- ---- an equation appended
@@ -72,25 +71,25 @@ appended e b =
 
 -- an equation is appended where a record is left for it
 unfoldable pub push : ℕ → Equation → Building → Course Building
-push records e b = cond (ltb b.used records) (going (appended e b)) (stopped 1 0)
+push records e b = cond (ltb b.used records) (Ok (appended e b)) (Err (refusal BadSize 0))
 
 -- ---- as the code has it
 
--- what a call that returns a stage, or a finish, and leaves these lists, came to
-unfoldable pub course_of : Stage → List ℕ → List Float → Course Building
-course_of (Halted k i) e w = stopped k i
-course_of (Going p) e w = going (building p.used e w p.normal)
+-- what a call that returns its progress, or a solution, and leaves these lists, came to
+abbrev pub course_of : Course Progress → List ℕ → List Float → Course Building
+course_of (Err r) e w = Err r
+course_of (Ok p) e w = Ok (building p.used e w p.normal)
 
-unfoldable pub finish_of : Finish → List ℕ → List Float → Course Solved
-finish_of (Failed k i) e w = stopped k i
-finish_of (Done s) e w = going (solved s.used e w s.inverse)
+abbrev pub finish_of : Course Solution → List ℕ → List Float → Course Solved
+finish_of (Err r) e w = Err r
+finish_of (Ok s) e w = Ok (solved s.used e w s.inverse)
 
 -- from the slices as a clause names them, at the call and after it
 abbrev pub building_before : Progress → MutSlice ℕ → MutSlice Float → Building
 building_before p e w = building p.used e.entry.now w.entry.now p.normal
 
-abbrev pub course_after : Stage → MutSlice ℕ → MutSlice Float → Course Building
+abbrev pub course_after : Course Progress → MutSlice ℕ → MutSlice Float → Course Building
 course_after s e w = course_of s e.exit.now w.exit.now
 
-abbrev pub finish_after : Finish → MutSlice ℕ → MutSlice Float → Course Solved
+abbrev pub finish_after : Course Solution → MutSlice ℕ → MutSlice Float → Course Solved
 finish_after s e w = finish_of s e.exit.now w.exit.now

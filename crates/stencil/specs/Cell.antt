@@ -1,11 +1,12 @@
 -- The stencil of one cell, phase by phase: its faces, in 2D its second ring, and its zero-gradient faces. Definitions only.
-use Rattle.std.specs.Prelude.{cond, ℕ, ◌-◌, eqb, Float}
+use Rattle.std.specs.Prelude.{List, cond, ℕ, ◌-◌, eqb, Float, Option, None, Some, Ok, Err}
+use Rattle.refusal.specs.Numbers.{refusal}
+use Rattle.refusal.specs.declared.Reason.TheVariants.{TooNear, SingularStencil, NoCondition}
 use Rattle.binary64.specs.Numbers.{zero64, one64, eps, is_far, ◌⊘◌}
 use Rattle.vector.specs.Vector.{zero3, difference, scaled, quotient, norm_squared, norm}
 use Rattle.matrix.specs.Normal.{outer, inverse}
 use Rattle.vector.specs.declared.Vec3.{Vec3}
-use Rattle.matrix.specs.declared.Inversion.{Inversion}
-use Rattle.matrix.specs.declared.Inversion.TheVariants.{Singular, Inverse}
+use Rattle.matrix.specs.declared.Normal.{Normal}
 use Rattle.mesh.specs.Records.{owner_at, neighbour_at, face_centre, face_normal, centre, peer_at, translation_at, condition_at}
 use Rattle.mesh.specs.declared.Condition.{Condition}
 use Rattle.mesh.specs.declared.Condition.TheVariants.{Absent, Fixed, ZeroGradient}
@@ -14,7 +15,7 @@ use Rattle.stencil.specs.declared.inner.build.Offer.{Offer}
 use Rattle.stencil.specs.declared.inner.build.Offer.TheVariants.{Closing, Missing, Difference}
 use Rattle.stencil.specs.Ring.{ring}
 use Rattle.stencil.specs.Lent.{Lent, cell_faces, web_of}
-use Rattle.stencil.specs.Building.{Building, with_normal, Solved, with_inverse, Course, stopped, going, and_then, over_all, equation, push}
+use Rattle.stencil.specs.Building.{Building, with_normal, Solved, with_inverse, Course, and_then, over_all, equation, push}
 use Rattle.std.specs.Float.Ieee as Ieee
 
 -- ---- what a face gives a cell
@@ -25,13 +26,16 @@ wall Absent away = Missing
 wall (Fixed v) away = Difference from_value away v
 wall ZeroGradient away = Closing
 
+-- the centre of another cell
+abbrev pub to_cell : List Float → ℕ → ℕ → Offer
+to_cell places c other = Difference (from_cell other) (difference (centre places other) (centre places c)) zero64
+
 -- a face with two cells: the other of them, at its centre
 abbrev pub across_face : Lent → ℕ → ℕ → Offer
 across_face l c f =
     let owner = owner_at l.mesh.adjacency f in
     let neighbour = neighbour_at l.mesh.adjacency f - 1 in
-    let other = cond (eqb owner c) neighbour owner in
-    Difference (from_cell other) (difference (centre l.mesh.places other) (centre l.mesh.places c)) zero64
+    to_cell l.mesh.places c (cond (eqb owner c) neighbour owner)
 
 -- a linked face: the owner of its peer, at its centre less the translation
 abbrev pub across_link : Lent → ℕ → ℕ → Offer
@@ -56,12 +60,12 @@ unfoldable pub weighted : ℕ → ℕ → ℕ → Vec3 → Float → Building �
 weighted records f source offset value b =
     let squared = norm_squared offset in
     let coefficient = scaled offset (one64 ⊘ squared) in
-    cond (Ieee.le squared eps) (stopped 7 f)
+    cond (Ieee.le squared eps) (Err (refusal TooNear f))
     (push records (equation source coefficient value) (with_normal b (outer b.normal coefficient offset)))
 
 unfoldable pub offered : ℕ → ℕ → Offer → Building → Course Building
-offered records f Closing b = going b
-offered records f Missing b = stopped 10 f
+offered records f Closing b = Ok b
+offered records f Missing b = Err (refusal NoCondition f)
 offered records f (Difference source offset value) b = weighted records f source offset value b
 
 unfoldable pub add_face : Lent → ℕ → ℕ → ℕ → Building → Course Building
@@ -81,7 +85,7 @@ add_ring l records c d b =
     let direction = quotient offset (norm offset) in
     cond (is_far squared)
     (push records (equation (from_cell d) (quotient offset squared) zero64) (with_normal b (outer b.normal direction direction)))
-    (going b)
+    (Ok b)
 
 unfoldable pub extend : Lent → ℕ → ℕ → Building → Course Building
 extend l records c b = over_all (add_ring l records c) (ring (web_of l.mesh) c) b
@@ -94,12 +98,12 @@ add_normal records normal b =
     let direction = quotient normal (norm normal) in
     cond (is_far (norm normal))
     (push records (equation from_self zero3 zero64) (with_normal b (outer b.normal direction direction)))
-    (going b)
+    (Ok b)
 
 unfoldable pub closing : ℕ → Vec3 → Offer → Building → Course Building
 closing records normal Closing b = add_normal records normal b
-closing records normal Missing b = going b
-closing records normal (Difference source offset value) b = going b
+closing records normal Missing b = Ok b
+closing records normal (Difference source offset value) b = Ok b
 
 unfoldable pub add_closing : Lent → ℕ → ℕ → ℕ → Building → Course Building
 add_closing l records c f b = closing records (face_normal l.mesh.geometry f) (offer l c f) b
@@ -110,15 +114,15 @@ close l records c b = over_all (add_closing l records c) (cell_faces l.mesh c) b
 -- ---- phase by phase, until the normal matrix has an inverse
 
 -- finished with the inverse, or, where there is none, what follows
-unfoldable pub settle : Inversion → Building → Course Solved → Course Solved
-settle (Inverse i) b other = going (with_inverse b i)
-settle Singular b other = other
+abbrev pub settle : Option Normal → Building → Course Solved → Course Solved
+settle (Some i) b other = Ok (with_inverse b i)
+settle None b other = other
 
-abbrev pub inverse_of : Lent → Building → Inversion
+abbrev pub inverse_of : Lent → Building → Option Normal
 inverse_of l b = inverse l.mesh.counts.dimension b.normal
 
 unfoldable pub finished : Lent → ℕ → Building → Course Solved
-finished l c b = settle (inverse_of l b) b (stopped 8 c)
+finished l c b = settle (inverse_of l b) b (Err (refusal SingularStencil c))
 
 unfoldable pub finish : Lent → ℕ → ℕ → Building → Course Solved
 finish l records c b = and_then (close l records c b) (finished l c)

@@ -1,10 +1,10 @@
 -- The checks of an entry that builds a stencil, in the order of docs/REFUSALS.md, and what it answers and leaves. Definitions only.
+use Rattle.refusal.specs.declared.Reason.TheVariants.{BadSize, WrongLength, OtherMesh}
 use Rattle.std.specs.Prelude.{◌≡◌, [], ◌∷◌, ◌&&◌, ℕ, eqb, leb}
-use Rattle.mesh.specs.Answers.{pass, or_else, first_of}
+use Rattle.mesh.specs.Answers.{pass, or_else, first_of, Answer}
 use Rattle.mesh.specs.Checks.{largest_count, sizes_ok}
 use Rattle.mesh.specs.Mesh.{Mesh, Conditions, mesh_sized, conditions_sized, topology}
 use Rattle.mesh.specs.Pass.{if_refused}
-use Rattle.mesh.specs.declared.Answer.{Answer}
 use Rattle.numerics.specs.Slices.{Lengths, stencil_sized, Slices, lengths_of}
 use Rattle.stencil.specs.Lent.{lent_of}
 use Rattle.stencil.specs.Stencil.{stencil_answer, stencil_slices}
@@ -13,9 +13,9 @@ use Rattle.stencil.specs.Stencil.{stencil_answer, stencil_slices}
 unfoldable pub stencil_checks : Mesh → Conditions → ℕ → Lengths → Answer
 stencil_checks m k records n =
     first_of
-    (pass 1 (sizes_ok m.counts && leb records largest_count)
-    ∷ pass 2 (mesh_sized m && conditions_sized m.counts.faces k.codes k.values && stencil_sized m.counts.cells records n)
-    ∷ pass 3 (eqb k.number m.counts.mesh)
+    (pass BadSize (sizes_ok m.counts && leb records largest_count)
+    ∷ pass WrongLength (mesh_sized m && conditions_sized m.counts.faces k.codes k.values && stencil_sized m.counts.cells records n)
+    ∷ pass OtherMesh (eqb k.number m.counts.mesh)
     ∷ topology m k.codes
     ∷ [])
 

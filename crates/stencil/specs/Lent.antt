@@ -22,7 +22,8 @@ lent_of m k = record { mesh = m; bounds = bounds_of k }
 abbrev pub SliceNow : Type 0 → Type 0
 SliceNow X = Bor (List X)
 
-abbrev pub lent_now : Counts → SliceNow ℕ → SliceNow Float → SliceNow ℕ → SliceNow Float → SliceNow ℕ → SliceNow ℕ → SliceNow ℕ → SliceNow Float → Lent
+abbrev pub lent_now : Counts → SliceNow ℕ → SliceNow Float → SliceNow ℕ → SliceNow Float → SliceNow ℕ → SliceNow ℕ → SliceNow ℕ → SliceNow Float
+    → Lent
 lent_now n a g h p f b c v = lent n a.now g.now h.now p.now f.now b.now c.now v.now
 
 abbrev pub lent_before : Counts → Slice ℕ → Slice Float → Slice ℕ → Slice Float → Slice ℕ → Slice ℕ → Slice ℕ → Slice Float → Lent

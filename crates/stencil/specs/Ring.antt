@@ -1,18 +1,14 @@
 -- The second ring of a cell: the neighbours of its neighbours that are neither itself nor neighbours, in rising order.
-use Rattle.std.specs.Prelude.{◌≡◌, List, [], ◌∷◌, Bool, true, false, not, ◌&&◌, cond, ℕ, zero, suc, ◌+◌, ◌*◌, ◌<◌, eqb, leb, ltb, length}
+use Rattle.std.specs.Prelude.{◌≡◌, List, [], ◌∷◌, Bool, not, ◌&&◌, cond, ℕ, zero, suc, ◌+◌, ◌*◌, ◌-◌, ◌<◌, eqb, leb, ltb, length}
+use Rattle.std.specs.List.{list_any, fold}
 use Rattle.chain.specs.Chains.{walk, Chain}
 use Rattle.mesh.specs.Lent.{Slice}
 use Rattle.mesh.specs.Records.{first_bordering}
 use Rattle.mesh.specs.declared.Counts.{Counts}
 
--- whether a list has d, and whether a test holds of one of its items
-unfoldable pub elem : ℕ → List ℕ → Bool
-elem d [] = false
-elem d (e ∷ es) = cond (eqb e d) true (elem d es)
-
-unfoldable pub any_of : (ℕ → Bool) → List ℕ → Bool
-any_of p [] = false
-any_of p (e ∷ es) = cond (p e) true (any_of p es)
+-- whether a list has d
+abbrev pub elem : ℕ → List ℕ → Bool
+elem d es = list_any (λ e. eqb e d) es
 
 -- which cells are neighbours: for each cell the first records of its two chains, and the records of neighbours
 pub record Ways : Type 0 where
@@ -44,7 +40,7 @@ abbrev pub beside : Ways → ℕ → ℕ → Bool
 beside w d n = elem d (neighbours_of w n)
 
 unfoldable pub in_ring : Ways → ℕ → ℕ → Bool
-in_ring w c d = fresh w c d && any_of (beside w d) (neighbours_of w c)
+in_ring w c d = fresh w c d && list_any (beside w d) (neighbours_of w c)
 
 -- those of d, d + 1, .. (n of them) for which p holds
 unfoldable pub up_from : (ℕ → Bool) → ℕ → ℕ → List ℕ
@@ -54,14 +50,19 @@ up_from p (suc n) d = cond (p d) (d ∷ up_from p n (d + 1)) (up_from p n (d + 1
 unfoldable pub ring : Ways → ℕ → List ℕ
 ring w c = up_from (in_ring w c) w.counts.cells 0
 
+-- its cells from d on; and those where d is the first of them, or no cell
+abbrev pub ring_from : Ways → ℕ → ℕ → List ℕ
+ring_from w c d = up_from (in_ring w c) (w.counts.cells - d) d
+
+abbrev pub ring_at : Ways → ℕ → ℕ → List ℕ
+ring_at w c d = cond (ltb d w.counts.cells) (d ∷ ring_from w c (d + 1)) []
+
 -- the search for the next: the lowest fresh cell from `from` on among those listed, or `best` where that is lower
 unfoldable pub lower_fresh : Ways → ℕ → ℕ → ℕ → ℕ → ℕ
 lower_fresh w c from best d = cond (leb from d && (ltb d best && fresh w c d)) d best
 
-unfoldable pub lowest_in : Ways → ℕ → ℕ → ℕ → List ℕ → ℕ
-lowest_in w c from best [] = best
-lowest_in w c from best (d ∷ ds) = lowest_in w c from (lower_fresh w c from best d) ds
+abbrev pub lowest_in : Ways → ℕ → ℕ → ℕ → List ℕ → ℕ
+lowest_in w c from best ds = fold (lower_fresh w c from) best ds
 
-unfoldable pub lowest_all : Ways → ℕ → ℕ → ℕ → List ℕ → ℕ
-lowest_all w c from best [] = best
-lowest_all w c from best (n ∷ ns) = lowest_all w c from (lowest_in w c from best (neighbours_of w n)) ns
+abbrev pub lowest_all : Ways → ℕ → ℕ → ℕ → List ℕ → ℕ
+lowest_all w c from best ns = fold (λ b n. lowest_in w c from b (neighbours_of w n)) best ns

@@ -1,13 +1,13 @@
 -- The stencil of every cell, in order: the first refusal, or what is handed out. Definitions only.
-use Rattle.std.specs.Prelude.{List, cond, ℕ, zero, suc, ◌+◌, ◌*◌, ◌-◌, ltb, set, replicate, Float}
+use Rattle.mesh.specs.Answers.{Answer, accepted}
+use Rattle.std.specs.Prelude.{◌≡◌, List, cond, ℕ, zero, suc, ◌+◌, ◌*◌, ◌-◌, ltb, set, length, replicate, Float, Ok, Err}
 use Rattle.binary64.specs.Numbers.{zero64}
 use Rattle.matrix.specs.Normal.{zero9}
 use Rattle.matrix.specs.declared.Normal.{Normal}
-use Rattle.mesh.specs.declared.Answer.{Answer}
-use Rattle.mesh.specs.declared.Answer.TheVariants.{Accepted, Refused}
+use Rattle.mesh.specs.Lent.{MutSlice}
 use Rattle.numerics.specs.Slices.{Slices, slices}
 use Rattle.stencil.specs.Lent.{Lent}
-use Rattle.stencil.specs.Building.{building, Solved, Course, stopped, going}
+use Rattle.stencil.specs.Building.{building, Solved, Course}
 use Rattle.stencil.specs.Cell.{cell_stencil}
 
 -- the record that a cell's chain starts with, if `used` records were `old` before it
@@ -39,43 +39,54 @@ blank l records =
     let cells = l.mesh.counts.cells in
     slices (replicate cells 0) (replicate (2 * records) 0) (replicate (4 * records) zero64) (replicate (9 * cells) zero64)
 
-pub data Result : Type 0 where
-  refused : ℕ → ℕ → Result
-  built : Stencil → Result
-
 -- the stencil with that of the cell c added
-unfoldable pub joined : ℕ → Stencil → Course Solved → Result
-joined c s (stopped k i) = refused k i
-joined c s (going b) =
-    built
+unfoldable pub joined : ℕ → Stencil → Course Solved → Course Stencil
+joined c s (Err e) = Err e
+joined c s (Ok b) =
+    Ok
     (stencil b.used (set s.slices.starts c (start_of s.used b.used)) (ended_at s.used b.used b.equations)
     b.weights (put_nine s.slices.inverses c b.inverse))
 
-unfoldable pub add_cell : Lent → ℕ → ℕ → Result → Result
-add_cell l records c (refused k i) = refused k i
-add_cell l records c (built s) =
+unfoldable pub add_cell : Lent → ℕ → ℕ → Course Stencil → Course Stencil
+add_cell l records c (Err e) = Err e
+add_cell l records c (Ok s) =
     joined c s (cell_stencil l records c (building s.used s.slices.equations s.slices.weights zero9))
 
 -- the cells below n
-unfoldable pub below : Lent → ℕ → ℕ → Result
-below l records zero = built (record { used = 0; slices = blank l records })
+unfoldable pub below : Lent → ℕ → ℕ → Course Stencil
+below l records zero = Ok (record { used = 0; slices = blank l records })
 below l records (suc n) = add_cell l records n (below l records n)
 
-abbrev pub whole : Lent → ℕ → Result
+abbrev pub whole : Lent → ℕ → Course Stencil
 whole l records = below l records l.mesh.counts.cells
 
 -- ---- what is handed out: after a refusal, zeros throughout
 
-unfoldable pub answer_of : Result → Answer
-answer_of (refused k i) = Refused k i
-answer_of (built s) = Accepted
+unfoldable pub answer_of : Course Stencil → Answer
+answer_of (Err e) = Err e
+answer_of (Ok s) = accepted
 
-unfoldable pub slices_of : Lent → ℕ → Result → Slices
-slices_of l records (refused k i) = blank l records
-slices_of l records (built s) = s.slices
+unfoldable pub slices_of : Lent → ℕ → Course Stencil → Slices
+slices_of l records (Err e) = blank l records
+slices_of l records (Ok s) = s.slices
 
 unfoldable pub stencil_answer : Lent → ℕ → Answer
 stencil_answer l records = answer_of (whole l records)
 
 unfoldable pub stencil_slices : Lent → ℕ → Slices
 stencil_slices l records = slices_of l records (whole l records)
+
+-- what the pass over the cells comes to, in slices that were blank: its refusal, or the slices as they are handed out
+abbrev pub Filled : Lent → ℕ → Answer → Slices → Type 0
+Filled l records (Err e) s = whole l records ≡ Err e
+Filled l records (Ok u) s = (used : ℕ) × (whole l records ≡ Ok (record { used = used; slices = s }))
+
+-- zeros throughout, of the same lengths
+abbrev pub cleared : Slices → Slices
+cleared s =
+    slices (replicate (length s.starts) 0) (replicate (length s.equations) 0) (replicate (length s.weights) zero64)
+    (replicate (length s.inverses) zero64)
+
+-- from slices that a call writes, as a clause names them, at the call
+abbrev pub slices_at : MutSlice ℕ → MutSlice ℕ → MutSlice Float → MutSlice Float → Slices
+slices_at s e w i = slices s.entry.now e.entry.now w.entry.now i.entry.now

@@ -6,11 +6,13 @@ ghost use Rattle.mesh.specs.Lent.{mesh_lent, conditions_lent};
 ghost use Rattle.numerics.specs.Slices.{lengths, slices, slices_after};
 ghost use Rattle.stencil.specs.Checks.{stencil_checks, StencilCall};
 
-use mesh::{Answer, Counts};
+use mesh::{Answer, Conditions, Counts, Mesh};
+use refusal::Reason;
 
 pub mod inner;
 
 // The checks 1 to 6 for an entry that builds a stencil; the last four are the lengths of its slices.
+#[tactic(auto, using(crate::proofs::Buildable::in_order), unfolding(mesh::specs::Answers::first_of, crate::specs::Checks::stencil_checks))]
 fn check_stencil(
     counts: Counts,
     adjacency: &[usize],
@@ -32,22 +34,30 @@ fn check_stencil(
         let k = conditions_lent number codes values in
         result ≡ stencil_checks m k records (lengths starts equations weights inverses) }
 {
-    if !(mesh::sizes_ok(counts) & (records <= mesh::LARGEST_COUNT)) {
-        return Answer::Refused(1, 0);
-    }
-    if !(mesh::mesh_sized(
-        counts, adjacency, geometry, heads, places, facing, bordering,
-    ) & mesh::conditions_sized(counts.faces, codes, values)
-        & numerics::stencil_sized(counts.cells, records, starts, equations, weights, inverses))
-    {
-        return Answer::Refused(2, 0);
-    }
-    if number != counts.mesh {
-        return Answer::Refused(3, 0);
-    }
-    mesh::check_topology(
-        counts, adjacency, geometry, heads, places, facing, bordering, codes,
-    )
+    let lent = Mesh {
+        counts,
+        adjacency,
+        geometry,
+        heads,
+        places,
+        facing,
+        bordering,
+    };
+    let conditions = Conditions {
+        number,
+        codes,
+        values,
+    };
+    mesh::pass(
+        Reason::BadSize,
+        mesh::sizes_ok(counts) & (records <= mesh::LARGEST_COUNT),
+    )?;
+    let sized = lent.is_sized()
+        & conditions.is_sized(counts.faces)
+        & numerics::stencil_sized(counts.cells, records, starts, equations, weights, inverses);
+    mesh::pass(Reason::WrongLength, sized)?;
+    mesh::pass(Reason::OtherMesh, number == counts.mesh)?;
+    lent.check_topology(codes)
 }
 
 // The equations of every cell as chained records, the first record of each cell, and the nine
@@ -75,7 +85,7 @@ pub fn least_squares_stencil(
         let before = slices starts.old equations.old weights.old inverses.old in
         StencilCall m k records before result (slices_after starts equations weights inverses) }
 {
-    let a = check_stencil(
+    check_stencil(
         counts,
         adjacency,
         geometry,
@@ -91,12 +101,9 @@ pub fn least_squares_stencil(
         equations.len(),
         weights.len(),
         inverses.len(),
-    );
-    match a {
-        Answer::Accepted => inner::build::least_squares_stencil(
-            counts, adjacency, geometry, heads, places, facing, bordering, codes, values, records,
-            starts, equations, weights, inverses,
-        ),
-        Answer::Refused(k, i) => Answer::Refused(k, i),
-    }
+    )?;
+    inner::build::least_squares_stencil(
+        counts, adjacency, geometry, heads, places, facing, bordering, codes, values, records,
+        starts, equations, weights, inverses,
+    )
 }

@@ -1,12 +1,11 @@
 -- Laws of the outputs: when two sets of them are the same, and that those of an accepted step meet demand 3. Assumes nothing.
+use Rattle.mesh.specs.Answers.{Answer, accepted}
 use mathlib.Core.Path.{◌≡◌, sym, ◌∙◌, subst}
 use Prim.Native.Nat.{ℕ, ◌<◌}
 use lib.Dec.{T}
 use lib.ListN.{length, get_or}
 use lib.Ieee.{nan, binary64, fits}
 use Rattle.mesh.specs.Pass.{if_refused}
-use Rattle.mesh.specs.declared.Answer.{Answer}
-use Rattle.mesh.specs.declared.Answer.TheVariants.{Accepted}
 use Rattle.scheme.specs.Demand.{DemandThree}
 use Rattle.scheme.specs.Step.{Inputs, Lendable, work_answer}
 use Rattle.scheme.proofs.Demanded.{demanded}
@@ -29,7 +28,7 @@ same-cleared a b s e w i g p k f o m = rw (s, e, w, i, g, p, k, f, o, m)
 
 -- what an accepted step hands out meets it
 module _ (d : Inputs) (ready : Lendable d) (fit : (f : ℕ) → f < length d.walls.values → T (fits binary64 (get_or d.walls.values f nan))) where
-  pub delivered : (r : Answer) (old new : Handed) → r ≡ work_answer d → new ≡ if_refused r (cleared old) (results d) → r ≡ Accepted → DemandThree d new.flux new.outflow
+  pub delivered : (r : Answer) (old new : Handed) → r ≡ work_answer d → new ≡ if_refused r (cleared old) (results d) → r ≡ accepted → DemandThree d new.flux new.outflow
   unfolding if_refused
   delivered r old new h e ok =
       let out : new ≡ results d = e ∙ rw ok in

@@ -1,16 +1,15 @@
 -- What the checks of the step establish. Assumes nothing.
+use Rattle.refusal.specs.declared.Reason.TheVariants.{BadSize, WrongLength, OtherMesh}
 use mathlib.Core.Path.{◌≡◌, refl, sym, ap, ◌∙◌}
 use mathlib.Core.Bool.{Bool, ◌&&◌}
-use Prim.Native.Nat.{ℕ, ◌*◌}
+use Prim.Native.Nat.{◌*◌}
 use lib.Dec.{eqb, leb}
 use lib.ListN.{length}
 use borrow.Author.Tests.{eqb-true, leb-true}
-use Rattle.mesh.specs.Answers.{or_else, shape}
+use Rattle.mesh.specs.Answers.{or_else, shape, Answer, accepted}
 use Rattle.chain.specs.Search.{every_of}
 use Rattle.mesh.specs.Checks.{largest_count, sizes_ok}
 use Rattle.mesh.specs.Mesh.{mesh_sized, conditions_sized, topology}
-use Rattle.mesh.specs.declared.Answer.{Answer}
-use Rattle.mesh.specs.declared.Answer.TheVariants.{Accepted, Refused}
 use Rattle.mesh.proofs.Facts.{all_accepted, shape_first, small}
 use Rattle.mesh.proofs.Facts as facts
 use Rattle.mesh.proofs.Good.{sized, sound}
@@ -19,23 +18,19 @@ use Rattle.numerics.specs.Slices.{lengths_of, stencil_sizes}
 use Rattle.step.specs.Call.{Handed, field_sizes, fields_sized, output_sizes, outputs_sized, step_numbers, step_sized, step_checks, OutputsFit}
 use Rattle.scheme.specs.Step.{Inputs, alike, work_answer, Lendable}
 
-pub refused_first : (a b : Answer) (k i : ℕ) → a ≡ Refused k i → Refused k i ≡ or_else a b
-unfolding or_else
-refused_first a b k i e = rw e
-
-pub passed : (d : Inputs) (old : Handed) (r : Answer) → r ≡ step_checks d old → r ≡ Accepted → Lendable d × OutputsFit d.mesh.counts d.records old
+pub passed : (d : Inputs) (old : Handed) (r : Answer) → r ≡ step_checks d old → r ≡ accepted → Lendable d × OutputsFit d.mesh.counts d.records old
 unfolding step_checks
 passed d old r c e =
     let m = d.mesh in
     let n = m.counts in
     let k = d.conditions in
     let s = all_accepted _ (sym c ∙ e) in
-    let counts = and_true (sizes_ok n) (leb d.records largest_count) (facts.passed 1 _ (s 0)) in
-    let same = every_at (step_numbers d) (facts.passed 3 _ (s 2)) in
+    let counts = and_true (sizes_ok n) (leb d.records largest_count) (facts.passed BadSize _ (s 0)) in
+    let same = every_at (step_numbers d) (facts.passed OtherMesh _ (s 2)) in
     let bound = conditions_sized n.faces k.codes k.values in
     let fields =
     fields_sized n (length d.velocity.values) (length d.pressure.values) (length d.responses.values) (length d.walls.values) (length d.correction.values) in
-    let w = and_true (mesh_sized m && bound && fields) (outputs_sized n d.records old) (facts.passed 2 _ (s 1)) in
+    let w = and_true (mesh_sized m && bound && fields) (outputs_sized n d.records old) (facts.passed WrongLength _ (s 1)) in
     let v = and_true (mesh_sized m && bound) fields w.0 in
     let u = and_true (mesh_sized m) bound v.0 in
     let own = and_true (eqb (length k.codes) (2 * n.faces)) (eqb (length k.values) (4 * n.faces)) u.1 in
@@ -87,12 +82,9 @@ module _ (d : Inputs) (old : Handed) (z m k f o : Bool) (a : Answer) (ez : z ≡
   unfolding step_checks
   found = shape_first _ _ _ _ ∙ ap (λ (b : Answer). or_else b (topology d.mesh d.conditions.codes)) (sym (ea ∙ shaped))
 
-  pub checked_by : (r : Answer) → a ≡ Accepted → r ≡ topology d.mesh d.conditions.codes → r ≡ step_checks d old
+  pub checked_by : (r : Answer) → a ≡ accepted → r ≡ topology d.mesh d.conditions.codes → r ≡ step_checks d old
   unfolding or_else
   checked_by r ok is = is ∙ sym (found ∙ rw ok)
-
-  pub refused_by : (j i : ℕ) → a ≡ Refused j i → Refused j i ≡ step_checks d old
-  refused_by j i is = refused_first a (topology d.mesh d.conditions.codes) j i is ∙ sym found
 
 -- the work does not look at mesh numbers
 abbrev numbered : Inputs → Inputs

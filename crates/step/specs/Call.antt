@@ -1,13 +1,12 @@
 -- The step as one call: its checks, its answer, and what its ten outputs hold. Definitions only.
+use Rattle.refusal.specs.declared.Reason.TheVariants.{BadSize, WrongLength, OtherMesh}
 use Rattle.std.specs.Prelude.{◌≡◌, List, [], ◌∷◌, Bool, ◌&&◌, ℕ, ◌*◌, eqb, leb, length, replicate, Float}
 use Rattle.binary64.specs.Numbers.{zero64}
-use Rattle.mesh.specs.Answers.{pass, first_of, or_else}
+use Rattle.mesh.specs.Answers.{pass, first_of, or_else, Answer, accepted}
 use Rattle.mesh.specs.Checks.{largest_count, sizes_ok}
 use Rattle.mesh.specs.Mesh.{mesh_sized, conditions_sized, topology}
 use Rattle.mesh.specs.Pass.{if_refused}
 use Rattle.chain.specs.Search.{every_of}
-use Rattle.mesh.specs.declared.Answer.{Answer}
-use Rattle.mesh.specs.declared.Answer.TheVariants.{Accepted}
 use Rattle.mesh.specs.declared.Counts.{Counts}
 use Rattle.numerics.specs.Slices.{Slices, slices, lengths_of, stencil_sized}
 use Rattle.corrector.specs.Metrics.{metrics_of, metrics_numbers}
@@ -28,7 +27,7 @@ handed s g p k f o m = record { stencil = s; gradient = g; predicted = p; coeffi
 
 -- what holds where the answer accepts
 abbrev pub IfAccepted : Answer → Type 0 → Type 0
-IfAccepted r P = r ≡ Accepted → P
+IfAccepted r P = r ≡ accepted → P
 
 -- ---- the checks
 
@@ -78,9 +77,9 @@ step_sized d old =
 unfoldable pub step_checks : Inputs → Handed → Answer
 step_checks d old =
     first_of
-    (pass 1 (sizes_ok d.mesh.counts && leb d.records largest_count)
-    ∷ pass 2 (step_sized d old)
-    ∷ pass 3 (every_of (step_numbers d))
+    (pass BadSize (sizes_ok d.mesh.counts && leb d.records largest_count)
+    ∷ pass WrongLength (step_sized d old)
+    ∷ pass OtherMesh (every_of (step_numbers d))
     ∷ topology d.mesh d.conditions.codes
     ∷ [])
 

@@ -8,7 +8,8 @@ ghost use Rattle.scheme.specs.Demand.{Demanded};
 ghost use Rattle.step.specs.Call.{fields_sized, outputs_sized, step_checks, StepCall};
 ghost use Rattle.step.specs.Lent.{inputs_lent, outputs_lent, outputs_before, outputs_after};
 
-use mesh::{Answer, Counts};
+use mesh::{Answer, Conditions, Counts, Mesh};
+use refusal::Reason;
 
 mod work;
 
@@ -63,6 +64,7 @@ fn outputs_sized(
         & (metrics.len() == 2)
 }
 
+#[tactic(auto, using(mesh::proofs::Facts::refuses, mesh::proofs::Facts::goes_on, mesh::proofs::Facts::or_accepted), unfolding(mesh::specs::Answers::first_of, crate::specs::Call::step_checks))]
 fn check_step(
     counts: Counts,
     adjacency: &[usize],
@@ -102,9 +104,22 @@ fn check_step(
         let old = outputs_lent starts equations weights inverses gradient predicted coefficients flux outflow metrics in
         result ≡ step_checks d old }
 {
-    let sized = mesh::mesh_sized(
-        counts, adjacency, geometry, heads, places, facing, bordering,
-    ) & mesh::conditions_sized(counts.faces, codes, values)
+    let lent = Mesh {
+        counts,
+        adjacency,
+        geometry,
+        heads,
+        places,
+        facing,
+        bordering,
+    };
+    let conditions = Conditions {
+        number,
+        codes,
+        values,
+    };
+    let sized = lent.is_sized()
+        & conditions.is_sized(counts.faces)
         & fields_sized(
             counts,
             velocities.len(),
@@ -133,23 +148,20 @@ fn check_step(
         & (response == counts.mesh)
         & (wall == counts.mesh)
         & (correction == counts.mesh);
-    let a = mesh::shape(
+    mesh::pass(
+        Reason::BadSize,
         mesh::sizes_ok(counts) & (records <= mesh::LARGEST_COUNT),
-        sized,
-        same,
-    );
-    match a {
-        Answer::Accepted => mesh::check_topology(
-            counts, adjacency, geometry, heads, places, facing, bordering, codes,
-        ),
-        Answer::Refused(k, i) => Answer::Refused(k, i),
-    }
+    )?;
+    mesh::pass(Reason::WrongLength, sized)?;
+    mesh::pass(Reason::OtherMesh, same)?;
+    lent.check_topology(codes)
 }
 
 // One step of the coupling. `number` is the mesh number of the conditions, and the stencil has room
 // for `records` records. The outputs are the stencil's four slices, the gradient of the pressure,
 // the predicted flux, the coefficients, the corrected flux, the outflow of each cell, and in
 // `metrics` their root mean square and the largest divergence.
+#[tactic(auto, using(mesh::proofs::Facts::refuses, passes::proofs::Stages::never_accepted), unfolding(mesh::specs::Answers::or_else, mesh::specs::Pass::if_refused))]
 pub fn step(
     counts: Counts,
     adjacency: &[usize],
@@ -194,7 +206,7 @@ pub fn step(
         let d = inputs_lent m k records velocity velocities pressure pressures response responses wall walls correction corrections in
         Demanded result d flux.new outflow.new }
 {
-    let a = check_step(
+    check_step(
         counts,
         adjacency,
         geometry,
@@ -226,35 +238,32 @@ pub fn step(
         flux,
         outflow,
         metrics,
-    );
-    match a {
-        Answer::Accepted => work::carry_out(
-            counts,
-            adjacency,
-            geometry,
-            heads,
-            places,
-            facing,
-            bordering,
-            codes,
-            values,
-            records,
-            velocities,
-            pressures,
-            responses,
-            walls,
-            corrections,
-            starts,
-            equations,
-            weights,
-            inverses,
-            gradient,
-            predicted,
-            coefficients,
-            flux,
-            outflow,
-            metrics,
-        ),
-        Answer::Refused(k, i) => Answer::Refused(k, i),
-    }
+    )?;
+    work::carry_out(
+        counts,
+        adjacency,
+        geometry,
+        heads,
+        places,
+        facing,
+        bordering,
+        codes,
+        values,
+        records,
+        velocities,
+        pressures,
+        responses,
+        walls,
+        corrections,
+        starts,
+        equations,
+        weights,
+        inverses,
+        gradient,
+        predicted,
+        coefficients,
+        flux,
+        outflow,
+        metrics,
+    )
 }

@@ -20,22 +20,21 @@ ghost use Rattle.step.specs.Call.{IfAccepted, cleared, results, OutputsFit};
 ghost use Rattle.step.specs.Lent.{alike_lent, outputs_before, outputs_after, mesh_now, alike_now, outputs_now};
 
 use mesh::{Answer, Counts};
+use refusal::Reason;
 
 // 9 with index 0 where an outflow is not finite.
+#[tactic(auto, unfolding(scheme::specs::Step::spilled))]
 fn finite_outflows(outflow: &[f64]) -> Answer
     ensures { result ≡ finite_answer outflow.now }
 {
-    let mut c = 0;
-    while c < outflow.len() {
-        if !binary64::finite(outflow[c]) {
-            return Answer::Refused(9, 0);
-        }
-        c += 1;
+    match chain::lowest(outflow.len(), |c| !binary64::finite(outflow[c])) {
+        None => Ok(()),
+        Some(_) => Err(Reason::BadCoefficient.at(0)),
     }
-    Answer::Accepted
 }
 
 // The outflows of a flux and their metrics.
+#[tactic(auto, using(mesh::proofs::Facts::refuses, passes::proofs::Stages::never_accepted), unfolding(mesh::specs::Answers::or_else))]
 fn measure(
     adjacency: &[usize],
     places: &[f64],
@@ -51,17 +50,13 @@ fn measure(
         let metric = metrics_of places.now sums in
         IfAccepted result ((outflow.new ≡ sums) × (metrics.new ≡ metrics_numbers metric)) }
 {
-    let a = corrector::inner::metrics::continuity_metrics(
-        adjacency, places, flux, outflow, metrics,
-    );
-    match a {
-        Answer::Accepted => finite_outflows(outflow),
-        Answer::Refused(k, i) => Answer::Refused(k, i),
-    }
+    corrector::inner::metrics::continuity_metrics(adjacency, places, flux, outflow, metrics)?;
+    finite_outflows(outflow)
 }
 
 // The coefficients of all faces, of which those with two cells stand there already, and the flux that
 // is corrected with them.
+#[tactic(auto, using(mesh::proofs::Facts::refuses, passes::proofs::Stages::never_accepted), unfolding(mesh::specs::Answers::or_else))]
 fn correct(
     adjacency: &[usize],
     geometry: &[f64],
@@ -95,7 +90,7 @@ fn correct(
         let x = lent predicted.now c corrections.now in
         IfAccepted result ((coefficients.new ≡ c) × (flux.new ≡ corrected_fluxes x)) }
 {
-    let a = predictor::inner::boundary::complete(
+    predictor::inner::boundary::complete(
         adjacency,
         geometry,
         places,
@@ -103,23 +98,21 @@ fn correct(
         values,
         responses,
         coefficients,
-    );
-    match a {
-        Answer::Accepted => corrector::inner::correction::correct_face_flux(
-            adjacency,
-            codes,
-            values,
-            predicted,
-            coefficients,
-            corrections,
-            flux,
-        ),
-        Answer::Refused(k, i) => Answer::Refused(k, i),
-    }
+    )?;
+    corrector::inner::correction::correct_face_flux(
+        adjacency,
+        codes,
+        values,
+        predicted,
+        coefficients,
+        corrections,
+        flux,
+    )
 }
 
 // The stencil, the gradient of the pressure by it, and the flux that is predicted with that and with
 // the coefficients of the faces with two cells, which are left in `coefficients`.
+#[tactic(auto, using(mesh::proofs::Facts::refuses, passes::proofs::Stages::never_accepted), unfolding(mesh::specs::Answers::or_else))]
 fn predict(
     counts: Counts,
     adjacency: &[usize],
@@ -172,33 +165,31 @@ fn predict(
     ensures begun { let m = grid_lent adjacency geometry places in
         IfAccepted result (Begun m responses.now coefficients.new) }
 {
-    let a = stencil::inner::build::least_squares_stencil(
+    stencil::inner::build::least_squares_stencil(
         counts, adjacency, geometry, heads, places, facing, bordering, codes, values, records,
         starts, equations, weights, inverses,
-    );
-    match a {
-        Answer::Accepted => predictor::inner::prediction::rhie_chow_predicted_flux(
-            adjacency,
-            geometry,
-            places,
-            records,
-            starts,
-            equations,
-            weights,
-            inverses,
-            velocities,
-            pressures,
-            responses,
-            walls,
-            coefficients,
-            gradient,
-            predicted,
-        ),
-        Answer::Refused(k, i) => Answer::Refused(k, i),
-    }
+    )?;
+    predictor::inner::prediction::rhie_chow_predicted_flux(
+        adjacency,
+        geometry,
+        places,
+        records,
+        starts,
+        equations,
+        weights,
+        inverses,
+        velocities,
+        pressures,
+        responses,
+        walls,
+        coefficients,
+        gradient,
+        predicted,
+    )
 }
 
 // All parts up to the first refusal.
+#[tactic(auto, using(mesh::proofs::Facts::refuses, passes::proofs::Stages::never_accepted), unfolding(mesh::specs::Answers::or_else))]
 fn run(
     counts: Counts,
     adjacency: &[usize],
@@ -238,7 +229,7 @@ fn run(
         let new = outputs_after starts equations weights inverses gradient predicted coefficients flux outflow metrics in
         IfAccepted result (new ≡ results d) }
 {
-    let a = predict(
+    predict(
         counts,
         adjacency,
         geometry,
@@ -260,28 +251,20 @@ fn run(
         inverses,
         gradient,
         predicted,
-    );
-    match a {
-        Answer::Accepted => {
-            let b = correct(
-                adjacency,
-                geometry,
-                places,
-                codes,
-                values,
-                responses,
-                predicted,
-                corrections,
-                coefficients,
-                flux,
-            );
-            match b {
-                Answer::Accepted => measure(adjacency, places, flux, outflow, metrics),
-                Answer::Refused(k, i) => Answer::Refused(k, i),
-            }
-        }
-        Answer::Refused(k, i) => Answer::Refused(k, i),
-    }
+    )?;
+    correct(
+        adjacency,
+        geometry,
+        places,
+        codes,
+        values,
+        responses,
+        predicted,
+        corrections,
+        coefficients,
+        flux,
+    )?;
+    measure(adjacency, places, flux, outflow, metrics)
 }
 
 // 0 and +0.0 throughout.
@@ -301,8 +284,8 @@ fn clear(
         let new = outputs_after starts equations weights inverses gradient predicted coefficients flux outflow metrics in
         new ≡ cleared old }
 {
-    mesh::clear_numbers(starts);
-    mesh::clear_numbers(equations);
+    starts.fill(0);
+    equations.fill(0);
     mesh::clear(weights);
     mesh::clear(inverses);
     mesh::clear(gradient);
@@ -354,7 +337,7 @@ pub(crate) fn carry_out(
         let new = outputs_after starts equations weights inverses gradient predicted coefficients flux outflow metrics in
         new ≡ if_refused result (cleared old) (results d) }
 {
-    let a = run(
+    if let Err(refusal) = run(
         counts,
         adjacency,
         geometry,
@@ -380,23 +363,20 @@ pub(crate) fn carry_out(
         flux,
         outflow,
         metrics,
-    );
-    match a {
-        Answer::Accepted => Answer::Accepted,
-        Answer::Refused(k, i) => {
-            clear(
-                starts,
-                equations,
-                weights,
-                inverses,
-                gradient,
-                predicted,
-                coefficients,
-                flux,
-                outflow,
-                metrics,
-            );
-            Answer::Refused(k, i)
-        }
+    ) {
+        clear(
+            starts,
+            equations,
+            weights,
+            inverses,
+            gradient,
+            predicted,
+            coefficients,
+            flux,
+            outflow,
+            metrics,
+        );
+        return Err(refusal);
     }
+    Ok(())
 }

@@ -4,56 +4,54 @@
 #![tactic(auto)]
 
 use mesh::{Answer, Counts};
-use pattern::print;
-use std::io;
+use refusal::Refusal;
+use std::{fmt, io};
 
 // The mesh's number, which every slice has too.
 const MESH: u64 = 1;
 
+const COUNTS: Counts = Counts {
+    mesh: MESH,
+    dimension: 2,
+    cells: 2,
+    faces: 3,
+    facings: 4,
+    borderings: 2,
+};
+
 // The owner of each face, and its neighbour + 1.
 const ADJACENCY: [usize; 6] = [0, 2, 0, 0, 1, 0];
 
-fn counts() -> Counts {
-    Counts {
-        mesh: MESH,
-        dimension: 2,
-        cells: 2,
-        faces: 3,
-        facings: 4,
-        borderings: 2,
-    }
-}
+// A line for each number: its place, and the 16 hex digits of its pattern.
+#[derive(Clone, Copy)]
+struct Rows<'a>(&'a [f64]);
 
-// A line: a number's place, and the 16 hex digits of its pattern.
-fn print_row(rt: &impl Print, i: usize, x: f64) -> io::Result<()> {
-    print::decimal(rt, i as u64)?;
-    print::text(rt, b" ")?;
-    print::float(rt, x)?;
-    print::text(rt, b"\n")
-}
-
-fn print_rows(rt: &impl Print, numbers: &[f64]) -> io::Result<()> {
-    for (i, x) in numbers.iter().enumerate() {
-        print_row(rt, i, *x)?;
-    }
-    Ok(())
-}
-
-// Writes a refusal. Answers whether there is none.
-fn passed(rt: &impl Print, answer: Answer) -> io::Result<bool> {
-    match answer {
-        Answer::Accepted => Ok(true),
-        Answer::Refused(number, index) => {
-            print::refusal(rt, number, index)?;
-            print::text(rt, b"\n")?;
-            Ok(false)
+impl fmt::Display for Rows<'_> {
+    fn fmt<W: fmt::Write>(&self, f: &mut fmt::Formatter<W>) -> fmt::Result {
+        for (i, x) in self.0.iter().enumerate() {
+            writeln!(f, "{i} {:016x}", pattern::bits(*x))?;
         }
+        Ok(())
     }
 }
 
-fn corrected(flux: &mut [f64; 3]) -> Answer {
+// The flux of each face, and the outflow of each cell.
+#[derive(Clone, Copy)]
+struct Sheet {
+    flux: [f64; 3],
+    outflow: [f64; 2],
+}
+
+impl fmt::Display for Sheet {
+    fn fmt<W: fmt::Write>(&self, f: &mut fmt::Formatter<W>) -> fmt::Result {
+        write!(f, "face flux\n{}", Rows(&self.flux))?;
+        write!(f, "cell outflow\n{}", Rows(&self.outflow))
+    }
+}
+
+fn correct(flux: &mut [f64; 3]) -> Answer {
     simple::correct_face_flux_with_boundary(
-        counts(),
+        COUNTS,
         &ADJACENCY,
         MESH,
         &[0, 0, 2, 0, 2, 0],
@@ -68,22 +66,17 @@ fn corrected(flux: &mut [f64; 3]) -> Answer {
     )
 }
 
-fn summed(flux: &[f64; 3], outflow: &mut [f64; 2]) -> Answer {
-    numerics::integrated_divergence(counts(), &ADJACENCY, MESH, flux, outflow)
-}
-
-fn print_sheet(rt: &impl Print, flux: &[f64; 3], outflow: &[f64; 2]) -> io::Result<()> {
-    print::text(rt, b"face flux\n")?;
-    print_rows(rt, flux)?;
-    print::text(rt, b"cell outflow\n")?;
-    print_rows(rt, outflow)
+fn computed() -> Result<Sheet, Refusal> {
+    let mut flux = [0.0; 3];
+    let mut outflow = [0.0; 2];
+    correct(&mut flux)?;
+    numerics::integrated_divergence(COUNTS, &ADJACENCY, MESH, &flux, &mut outflow)?;
+    Ok(Sheet { flux, outflow })
 }
 
 fn main(rt: HostRuntime) -> io::Result<()> {
-    let mut flux = [0.0; 3];
-    let mut outflow = [0.0; 2];
-    if passed(&rt, corrected(&mut flux))? && passed(&rt, summed(&flux, &mut outflow))? {
-        print_sheet(&rt, &flux, &outflow)?;
+    match computed() {
+        Ok(sheet) => print!(rt; "{sheet}"),
+        Err(refusal) => println!(rt; "{refusal}"),
     }
-    Ok(())
 }

@@ -33,7 +33,8 @@ R_most : (U R SU : ℕ) → 1024 * R ≤ 1023 * SU + 2048 * U → SU ≤ 2 ^ 53 
 R_most U R SU i j = omega (arith, i, j)
 
 D_most : (U D g_d g_p N R : ℕ) → D ≤ g_d + g_d → g_d ≤ g_p + R → g_p ≤ N + 2 ^ 40 * U → N ≤ (2 ^ 92 + 2 ^ 39) * U → R ≤ 2 ^ 54 * U → D ≤ 2 ^ 94 * U
-D_most U D g_d g_p N R h i j k l = le_trans (middle (2 ^ 92 * U) (2 ^ 40 * U) (2 ^ 39 * U) (2 ^ 54 * U) (le_trans k (le_of_eq (spread (2 ^ 92) (2 ^ 39)))) j l (small U)) (sums U)
+D_most U D g_d g_p N R h i j k l =
+    le_trans (middle (2 ^ 92 * U) (2 ^ 40 * U) (2 ^ 39 * U) (2 ^ 54 * U) (le_trans k (le_of_eq (spread (2 ^ 92) (2 ^ 39)))) j l (small U)) (sums U)
   where
     sums : (u : ℕ) → 2 * (2 ^ 92 * u + 2 * (2 ^ 54 * u)) ≤ 2 ^ 94 * u
     sums u = omega arith
@@ -52,21 +53,25 @@ abbrev pub Sides : (A GG GU : ℕ) → Type 0
 Sides A GG GU = (GG < A + GU) × (A ≤ GG + GU)
 
 -- g is above s by C, and y is above s * s by D
-same_sides : (U A Q D g_d N g_p R CU CW GU SU GG : ℕ) → Within g_d D (2 ^ 41 * U) → Within g_p N (2 ^ 40 * U) → Within N CW CU → CU ≤ 2 ^ 38 * U → 2 ^ 52 * U ≤ SU → 1024 * R ≤ 1023 * SU + 2048 * U → 0 < U
+same_sides : (U A Q D g_d N g_p R CU CW GU SU GG : ℕ) → Within g_d D (2 ^ 41 * U) → Within g_p N (2 ^ 40 * U) → Within N CW CU → CU ≤ 2 ^ 38 * U
+    → 2 ^ 52 * U ≤ SU → 1024 * R ≤ 1023 * SU + 2048 * U → 0 < U
     → g_d ≤ g_p + R → g_p ≤ g_d + R → GU ≡ SU + CU → GG ≡ Q + CW → D + Q ≡ A → Sides A GG GU
 same_sides U A Q D g_d N g_p R CU CW GU SU GG (d, d') (p, p') (n, n') c s r u l m i j k =
     (omega (arith, d, p, n, c, s, r, u, m, i, j, k, d', p', n'), omega (arith, d, p, n, c, s, r, u, l, i, j, k, d', p', n'))
 
 -- g is below s by C, and y is below s * s by D
-other_sides : (U A Q D g_d N g_p R CU CW GU SU GG : ℕ) → Within g_d D (2 ^ 41 * U) → Within g_p N (2 ^ 40 * U) → Within N CW CU → CU ≤ 2 ^ 38 * U → 2 ^ 52 * U ≤ SU → 1024 * R ≤ 1023 * SU + 2048 * U → 0 < U
+other_sides : (U A Q D g_d N g_p R CU CW GU SU GG : ℕ) → Within g_d D (2 ^ 41 * U) → Within g_p N (2 ^ 40 * U) → Within N CW CU → CU ≤ 2 ^ 38 * U
+    → 2 ^ 52 * U ≤ SU → 1024 * R ≤ 1023 * SU + 2048 * U → 0 < U
     → g_d ≤ g_p + R → g_p ≤ g_d + R → SU ≡ GU + CU → Q ≡ GG + CW → Q ≡ D + A → Sides A GG GU
 other_sides U A Q D g_d N g_p R CU CW GU SU GG (d, d') (p, p') (n, n') c s r u l m i j k =
     (omega (arith, d, p, n, c, s, r, u, m, l, i, j, k, d', p', n'), omega (arith, d, p, n, c, s, r, u, l, m, i, j, k, d', p', n'))
 
 -- g is above s, and y is below s * s, or the other way about
-split_sides : (U A Q D g_d N g_p R CU CW GU SU GG : ℕ) → Within g_d D (2 ^ 41 * U) → Within g_p N (2 ^ 40 * U) → Within N CW CU → CU ≤ 2 ^ 38 * U → 2 ^ 52 * U ≤ SU → 1024 * R ≤ 1023 * SU + 2048 * U → 0 < U
+split_sides : (U A Q D g_d N g_p R CU CW GU SU GG : ℕ) → Within g_d D (2 ^ 41 * U) → Within g_p N (2 ^ 40 * U) → Within N CW CU → CU ≤ 2 ^ 38 * U
+    → 2 ^ 52 * U ≤ SU → 1024 * R ≤ 1023 * SU + 2048 * U → 0 < U
     → g_d + g_p ≤ R → SU ≤ GU + CU → (GG ≤ A + D + CW) × (A ≤ GG + D + CW) → Sides A GG GU
-split_sides U A Q D g_d N g_p R CU CW GU SU GG (d, d') (p, p') (n, n') c s r u l i (j, k) = (omega (arith, d', p', n', c, s, r, u, l, i, j), omega (arith, d', p', n', c, s, r, u, l, i, k))
+split_sides U A Q D g_d N g_p R CU CW GU SU GG (d, d') (p, p') (n, n') c s r u l i (j, k) =
+    (omega (arith, d', p', n', c, s, r, u, l, i, j), omega (arith, d', p', n', c, s, r, u, l, i, k))
 
 -- what is left of the rounded difference and the rounded product, by their signs
 abbrev pub Left : Bool → Bool → Bool → ℕ → ℕ → ℕ → Type 0
@@ -82,16 +87,26 @@ triangle false true false g_d g_p R e = omega (arith, e)
 triangle false false true g_d g_p R e = omega (arith, e)
 triangle false false false g_d g_p R e = omega (arith, e)
 
-pub sides : (U A Q D g_d N g_p R CU CW GU SU GG : ℕ) (rd rc rr : Bool) → Within g_d D (2 ^ 41 * U) → Within g_p N (2 ^ 40 * U) → Within N CW CU → CU ≤ 2 ^ 38 * U → 2 ^ 52 * U ≤ SU → 1024 * R ≤ 1023 * SU + 2048 * U → 0 < U
-    → cond rd 0 D + (0 + Q) ≡ cond rd D 0 + (A + 0) → cond rc (SU ≡ GU + CU) (GU ≡ SU + CU) → cond rc (Q ≡ GG + CW) (GG ≡ Q + CW) → Left rd rc rr g_d g_p R → Sides A GG GU
-sides U A Q D g_d N g_p R CU CW GU SU GG false false true d p n c s r u i j k l = same_sides U A Q D g_d N g_p R CU CW GU SU GG d p n c s r u (omega (arith, l)) (omega (arith, l)) j k (omega (arith, i))
-sides U A Q D g_d N g_p R CU CW GU SU GG false false false d p n c s r u i j k l = same_sides U A Q D g_d N g_p R CU CW GU SU GG d p n c s r u (omega (arith, l)) (omega (arith, l)) j k (omega (arith, i))
-sides U A Q D g_d N g_p R CU CW GU SU GG true true true d p n c s r u i j k l = other_sides U A Q D g_d N g_p R CU CW GU SU GG d p n c s r u (omega (arith, l)) (omega (arith, l)) j k (omega (arith, i))
-sides U A Q D g_d N g_p R CU CW GU SU GG true true false d p n c s r u i j k l = other_sides U A Q D g_d N g_p R CU CW GU SU GG d p n c s r u (omega (arith, l)) (omega (arith, l)) j k (omega (arith, i))
-sides U A Q D g_d N g_p R CU CW GU SU GG true false true d p n c s r u i j k l = split_sides U A Q D g_d N g_p R CU CW GU SU GG d p n c s r u (omega (arith, l)) (omega (arith, j)) (omega (arith, i, k), omega (arith, i, k))
-sides U A Q D g_d N g_p R CU CW GU SU GG true false false d p n c s r u i j k l = split_sides U A Q D g_d N g_p R CU CW GU SU GG d p n c s r u (omega (arith, l)) (omega (arith, j)) (omega (arith, i, k), omega (arith, i, k))
-sides U A Q D g_d N g_p R CU CW GU SU GG false true true d p n c s r u i j k l = split_sides U A Q D g_d N g_p R CU CW GU SU GG d p n c s r u (omega (arith, l)) (omega (arith, j)) (omega (arith, i, k), omega (arith, i, k))
-sides U A Q D g_d N g_p R CU CW GU SU GG false true false d p n c s r u i j k l = split_sides U A Q D g_d N g_p R CU CW GU SU GG d p n c s r u (omega (arith, l)) (omega (arith, j)) (omega (arith, i, k), omega (arith, i, k))
+pub sides : (U A Q D g_d N g_p R CU CW GU SU GG : ℕ) (rd rc rr : Bool) → Within g_d D (2 ^ 41 * U) → Within g_p N (2 ^ 40 * U) → Within N CW CU
+    → CU ≤ 2 ^ 38 * U → 2 ^ 52 * U ≤ SU → 1024 * R ≤ 1023 * SU + 2048 * U → 0 < U
+    → cond rd 0 D + (0 + Q) ≡ cond rd D 0 + (A + 0) → cond rc (SU ≡ GU + CU) (GU ≡ SU + CU) → cond rc (Q ≡ GG + CW) (GG ≡ Q + CW) → Left rd rc rr g_d g_p R
+    → Sides A GG GU
+sides U A Q D g_d N g_p R CU CW GU SU GG false false true d p n c s r u i j k l =
+    same_sides U A Q D g_d N g_p R CU CW GU SU GG d p n c s r u (omega (arith, l)) (omega (arith, l)) j k (omega (arith, i))
+sides U A Q D g_d N g_p R CU CW GU SU GG false false false d p n c s r u i j k l =
+    same_sides U A Q D g_d N g_p R CU CW GU SU GG d p n c s r u (omega (arith, l)) (omega (arith, l)) j k (omega (arith, i))
+sides U A Q D g_d N g_p R CU CW GU SU GG true true true d p n c s r u i j k l =
+    other_sides U A Q D g_d N g_p R CU CW GU SU GG d p n c s r u (omega (arith, l)) (omega (arith, l)) j k (omega (arith, i))
+sides U A Q D g_d N g_p R CU CW GU SU GG true true false d p n c s r u i j k l =
+    other_sides U A Q D g_d N g_p R CU CW GU SU GG d p n c s r u (omega (arith, l)) (omega (arith, l)) j k (omega (arith, i))
+sides U A Q D g_d N g_p R CU CW GU SU GG true false true d p n c s r u i j k l =
+    split_sides U A Q D g_d N g_p R CU CW GU SU GG d p n c s r u (omega (arith, l)) (omega (arith, j)) (omega (arith, i, k), omega (arith, i, k))
+sides U A Q D g_d N g_p R CU CW GU SU GG true false false d p n c s r u i j k l =
+    split_sides U A Q D g_d N g_p R CU CW GU SU GG d p n c s r u (omega (arith, l)) (omega (arith, j)) (omega (arith, i, k), omega (arith, i, k))
+sides U A Q D g_d N g_p R CU CW GU SU GG false true true d p n c s r u i j k l =
+    split_sides U A Q D g_d N g_p R CU CW GU SU GG d p n c s r u (omega (arith, l)) (omega (arith, j)) (omega (arith, i, k), omega (arith, i, k))
+sides U A Q D g_d N g_p R CU CW GU SU GG false true false d p n c s r u i j k l =
+    split_sides U A Q D g_d N g_p R CU CW GU SU GG d p n c s r u (omega (arith, l)) (omega (arith, j)) (omega (arith, i, k), omega (arith, i, k))
 
 -- ---- squares that are in order up to a digit
 
@@ -140,10 +155,13 @@ rest_small U R SU h m = omega (arith, h, m)
 
 -- ---- the whole of it
 
-pub near_sides : (U A Q D g_d N g_p R CU CW GU SU GG : ℕ) (rd rc rr : Bool) → Off (2 ^ 53) g_d D → Off (2 ^ 53) g_p N → Within N CW CU → CW ≤ 2 ^ 54 * CU → CU ≤ 2 ^ 38 * U → 2 ^ 52 * U ≤ SU → SU ≤ 2 ^ 53 * U
-    → 1024 * R ≤ 1023 * SU + 2048 * U → 0 < U → cond rd 0 D + (0 + Q) ≡ cond rd D 0 + (A + 0) → cond rc (SU ≡ GU + CU) (GU ≡ SU + CU) → cond rc (Q ≡ GG + CW) (GG ≡ Q + CW) → Left rd rc rr g_d g_p R → Sides A GG GU
+pub near_sides : (U A Q D g_d N g_p R CU CW GU SU GG : ℕ) (rd rc rr : Bool) → Off (2 ^ 53) g_d D → Off (2 ^ 53) g_p N → Within N CW CU → CW ≤ 2 ^ 54 * CU
+    → CU ≤ 2 ^ 38 * U → 2 ^ 52 * U ≤ SU → SU ≤ 2 ^ 53 * U
+    → 1024 * R ≤ 1023 * SU + 2048 * U → 0 < U → cond rd 0 D + (0 + Q) ≡ cond rd D 0 + (A + 0) → cond rc (SU ≡ GU + CU) (GU ≡ SU + CU)
+    → cond rc (Q ≡ GG + CW) (GG ≡ Q + CW) → Left rd rc rr g_d g_p R → Sides A GG GU
 near_sides U A Q D g_d N g_p R CU CW GU SU GG rd rc rr d p n w c s m r u i j k l =
     let most = N_most U N CU CW n.0 w c in
     let p' = off_at U g_p N (2 ^ 40) (2 ^ 92 + 2 ^ 39) p most (lit≤ tt) in
-    let d' = off_at U g_d D (2 ^ 41) (2 ^ 94) d (D_most U D g_d g_p N R (twice g_d D d.under) (triangle rd rc rr g_d g_p R l) p'.0 most (R_most U R SU r m)) (lit≤ tt) in
+    let d' = off_at U g_d D (2 ^ 41) (2 ^ 94) d (D_most U D g_d g_p N R (twice g_d D d.under) (triangle rd rc rr g_d g_p R l) p'.0 most (R_most U R SU r m))
+    (lit≤ tt) in
     sides U A Q D g_d N g_p R CU CW GU SU GG rd rc rr d' p' n c s r u i j k l

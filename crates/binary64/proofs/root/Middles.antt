@@ -1,4 +1,5 @@
--- `root` gives the nearest value: it is above zero, and the root of x is between the middles around it, for every x that is finite and above zero. Assumes nothing.
+-- `root` gives the nearest value: it is above zero, and the root of x is between the middles around it,
+-- for every x that is finite and above zero. Assumes nothing.
 use Rattle.std.proofs.Common.{◌≡◌, ℕ, zero, suc, ◌+◌, ◌-◌, ◌*◌, ◌/◌, ◌%◌, ◌^◌, ◌<◌, ◌≤◌, false, T, ◌⊎◌, sym, ap, ◌∙◌, subst, inl, inr, le_trans, le_of_eq, lt_of_lt_of_le, lt_of_le_of_lt, mul-le-mul_right, mul_assoc, mul_comm, add-mul, eq-or-lt_of_le, mul-le-mul_left, mul-lt-mul_of_pos_right, mul-pos, lt_of_not-le, add-one, arith, lit≤, pow_pos}
 use native.Mathlib.Nat.{mul-mul-mul_comm}
 use lib.Count.{count_leading_zeros}
@@ -78,19 +79,22 @@ lower M g k u =
     less s t e l = omega arith
 
 -- h is that least number, and the value below it is half as far
-lowest : (M k : ℕ) → 2 ^ 104 ≤ M → ((2 ^ 53 - 1) * 2 ^ k + 2 ^ 52 * 2 ^ (k + 1)) * ((2 ^ 53 - 1) * 2 ^ k + 2 ^ 52 * 2 ^ (k + 1)) < 4 * (M * (2 ^ (k + 1) * 2 ^ (k + 1)))
+lowest : (M k : ℕ) → 2 ^ 104 ≤ M
+    → ((2 ^ 53 - 1) * 2 ^ k + 2 ^ 52 * 2 ^ (k + 1)) * ((2 ^ 53 - 1) * 2 ^ k + 2 ^ 52 * 2 ^ (k + 1)) < 4 * (M * (2 ^ (k + 1) * 2 ^ (k + 1)))
 lowest M k m =
     let P = 2 ^ (k + 1) in
     let l : (2 ^ 53 - 1) * 2 ^ k + 2 ^ 52 * P < 2 ^ 53 * P = less (2 ^ k) P (power 2 k) (pow_pos k) in
     lt_of_lt_of_le (square_lt ((2 ^ 53 - 1) * 2 ^ k + 2 ^ 52 * P) (2 ^ 53 * P) l)
-    (le_trans (le_of_eq (mul-mul-mul_comm (2 ^ 53) P (2 ^ 53) P)) (le_trans (mul-le-mul_right (P * P) (mul-le-mul_left 4 m)) (le_of_eq (mul_assoc 4 M (P * P)))))
+    (le_trans (le_of_eq (mul-mul-mul_comm (2 ^ 53) P (2 ^ 53) P))
+    (le_trans (mul-le-mul_right (P * P) (mul-le-mul_left 4 m)) (le_of_eq (mul_assoc 4 M (P * P)))))
   where
     less : (r p : ℕ) → p ≡ r * 2 → 0 < r → (2 ^ 53 - 1) * r + 2 ^ 52 * p < 2 ^ 53 * p
     less r p e h = omega arith
 
 -- the lower middle, by the value below h * 2 ^ k
 lower_middle : (M h k : ℕ) → 2 ^ 104 ≤ M → 2 ^ 52 ≤ h → h < 2 ^ 53 → 1 ≤ k → k ≤ 2044 → h * h < M + h
-    → (count binary64 (of_bits binary64 (k * 2 ^ 52 + h - 1)) + h * 2 ^ k) * (count binary64 (of_bits binary64 (k * 2 ^ 52 + h - 1)) + h * 2 ^ k) < 4 * (M * (2 ^ k * 2 ^ k))
+    → (count binary64 (of_bits binary64 (k * 2 ^ 52 + h - 1)) + h * 2 ^ k) * (count binary64 (of_bits binary64 (k * 2 ^ 52 + h - 1)) + h * 2 ^ k) < 4 *
+    (M * (2 ^ k * 2 ^ k))
 lower_middle M zero k m lo hi k1 kl u = absurd (no lo)
   where
     no : 2 ^ 52 ≤ 0 → ⊥
@@ -108,14 +112,16 @@ lower_middle M (suc g) (suc j) m lo hi k1 kl u = go (eq-or-lt_of_le lo)
     under e = omega arith
 
     go : (2 ^ 52 ≡ suc g) ⊎ (2 ^ 52 < suc g)
-        → (count binary64 (of_bits binary64 (suc j * 2 ^ 52 + suc g - 1)) + suc g * 2 ^ suc j) * (count binary64 (of_bits binary64 (suc j * 2 ^ 52 + suc g - 1)) + suc g * 2 ^ suc j)
+        → (count binary64 (of_bits binary64 (suc j * 2 ^ 52 + suc g - 1)) + suc g * 2 ^ suc j) *
+        (count binary64 (of_bits binary64 (suc j * 2 ^ 52 + suc g - 1)) + suc g * 2 ^ suc j)
         < 4 * (M * (2 ^ suc j * 2 ^ suc j))
     go (inl e) =
         let c : count binary64 (of_bits binary64 (suc j * 2 ^ 52 + suc g - 1)) ≡ (2 ^ 53 - 1) * 2 ^ j =
         ap (λ (n : ℕ). count binary64 (of_bits binary64 n)) (under e) ∙ count_at (2 ^ 53 - 1) j (lit≤ tt) (lit≤ tt) (omega arith) in
         subst (λ (x : ℕ). (x + suc g * 2 ^ suc j) * (x + suc g * 2 ^ suc j) < 4 * (M * (2 ^ suc j * 2 ^ suc j))) (sym c)
         (subst (λ (x : ℕ). ((2 ^ 53 - 1) * 2 ^ j + x * 2 ^ suc j) * ((2 ^ 53 - 1) * 2 ^ j + x * 2 ^ suc j) < 4 * (M * (2 ^ suc j * 2 ^ suc j))) e
-        (subst (λ (i : ℕ). ((2 ^ 53 - 1) * 2 ^ j + 2 ^ 52 * 2 ^ i) * ((2 ^ 53 - 1) * 2 ^ j + 2 ^ 52 * 2 ^ i) < 4 * (M * (2 ^ i * 2 ^ i))) (add-one j) (lowest M j m)))
+        (subst (λ (i : ℕ). ((2 ^ 53 - 1) * 2 ^ j + 2 ^ 52 * 2 ^ i) * ((2 ^ 53 - 1) * 2 ^ j + 2 ^ 52 * 2 ^ i) < 4 * (M * (2 ^ i * 2 ^ i))) (add-one j)
+        (lowest M j m)))
     go (inr l) =
         let c : count binary64 (of_bits binary64 (suc j * 2 ^ 52 + suc g - 1)) ≡ g * 2 ^ suc j =
         ap (λ (n : ℕ). count binary64 (of_bits binary64 n)) along ∙ count_at g (suc j) (omega arith) (omega arith) (omega arith) in
@@ -148,11 +154,15 @@ between_at a h k lo hi k1 kl n =
     let b : to_bits binary64 (odd 54 false h k 1074) ≡ k * 2 ^ 52 + h = to_bits_odd h k hl hh in
     let c : count binary64 (odd 54 false h k 1074) ≡ h * 2 ^ k = count_odd h k in (
       usable_of (odd 54 false h k 1074) (h * 2 ^ k) (mul-pos (lt_of_lt_of_le (pow_pos 52) hl) (pow_pos k)) (odd_sign 54 false h k 1074),
-      subst (λ (y : ℕ). (count binary64 (of_bits binary64 (y - 1)) + count binary64 (odd 54 false h k 1074)) * (count binary64 (of_bits binary64 (y - 1)) + count binary64 (odd 54 false h k 1074)) < 4 * w) (sym b)
-          (subst (λ (y : ℕ). (count binary64 (of_bits binary64 (k * 2 ^ 52 + h - 1)) + y) * (count binary64 (of_bits binary64 (k * 2 ^ 52 + h - 1)) + y) < 4 * w) (sym c)
+      subst (λ (y : ℕ). (count binary64 (of_bits binary64 (y - 1)) + count binary64 (odd 54 false h k 1074)) *
+          (count binary64 (of_bits binary64 (y - 1)) + count binary64 (odd 54 false h k 1074)) < 4 * w) (sym b)
+          (subst (λ (y : ℕ). (count binary64 (of_bits binary64 (k * 2 ^ 52 + h - 1)) + y) *
+          (count binary64 (of_bits binary64 (k * 2 ^ 52 + h - 1)) + y) < 4 * w) (sym c)
           (lower_middle M h k (omega arith) hl hh k1 kl n.above)),
-      subst (λ (y : ℕ). 4 * w < (count binary64 (odd 54 false h k 1074) + count binary64 (of_bits binary64 (y + 1))) * (count binary64 (odd 54 false h k 1074) + count binary64 (of_bits binary64 (y + 1)))) (sym b)
-          (subst (λ (y : ℕ). 4 * w < (y + count binary64 (of_bits binary64 (k * 2 ^ 52 + h + 1))) * (y + count binary64 (of_bits binary64 (k * 2 ^ 52 + h + 1)))) (sym c)
+      subst (λ (y : ℕ). 4 * w < (count binary64 (odd 54 false h k 1074) + count binary64 (of_bits binary64 (y + 1))) *
+          (count binary64 (odd 54 false h k 1074) + count binary64 (of_bits binary64 (y + 1)))) (sym b)
+          (subst (λ (y : ℕ). 4 * w < (y + count binary64 (of_bits binary64 (k * 2 ^ 52 + h + 1))) *
+          (y + count binary64 (of_bits binary64 (k * 2 ^ 52 + h + 1)))) (sym c)
           (subst (λ (y : ℕ). 4 * w < (h * 2 ^ k + y) * (h * 2 ^ k + y)) (sym (next_up h k hl hh kl)) (upper M h k n.under))),
     )
 
@@ -168,9 +178,11 @@ between a e la ha le he =
     let kl' : k ≤ 2045 = omega arith in
     let parts : o + 52 + (k + k) ≡ e = omega arith in
     let n = nearest_to (a + o * a) (omega arith) in
-    let w : (a + o * a) * 2 ^ 52 * (2 ^ k * 2 ^ k) ≡ a * 2 ^ e = ap (λ (x : ℕ). x * 2 ^ 52 * (2 ^ k * 2 ^ k)) (doubled a o (omega arith)) ∙ regroup a o k e parts in
+    let w : (a + o * a) * 2 ^ 52 * (2 ^ k * 2 ^ k) ≡ a * 2 ^ e = ap (λ (x : ℕ). x * 2 ^ 52 * (2 ^ k * 2 ^ k)) (doubled a o (omega arith))
+    ∙ regroup a o k e parts in
     subst (λ (x : ℕ). Between x (nearest_root binary64 x)) w
-    (subst (λ (r : Float). Between ((a + o * a) * 2 ^ 52 * (2 ^ k * 2 ^ k)) r) (sym (nearest_root_near (a + o * a) n.0 k bottom top kl' n.1)) (between_at (a + o * a) n.0 k bottom top k1 kl n.1))
+    (subst (λ (r : Float). Between ((a + o * a) * 2 ^ 52 * (2 ^ k * 2 ^ k)) r) (sym (nearest_root_near (a + o * a) n.0 k bottom top kl' n.1))
+    (between_at (a + o * a) n.0 k bottom top k1 kl n.1))
 
 -- ---- the law
 
@@ -194,7 +206,8 @@ of_pattern b lo hi = go (lt_or_le b)
     go (inl l) =
         let s = shift_of b lo l in
         let z = count_leading_zeros 64 b - 11 in
-        of_positive (of_bits binary64 b) (b * 2 ^ z * 2 ^ (1074 - z)) (subnormal_is b z lo l (omega arith)) (between (b * 2 ^ z) (1074 - z) s.2 s.3 (omega arith) (omega arith))
+        of_positive (of_bits binary64 b) (b * 2 ^ z * 2 ^ (1074 - z)) (subnormal_is b z lo l (omega arith))
+        (between (b * 2 ^ z) (1074 - z) s.2 s.3 (omega arith) (omega arith))
     go (inr l) =
         of_positive (of_bits binary64 b) ((b % 2 ^ 52 + 2 ^ 52) * 2 ^ (b / 2 ^ 52 + 1073)) (normal_is b l hi)
         (between (b % 2 ^ 52 + 2 ^ 52) (b / 2 ^ 52 + 1073) (omega arith) (omega arith) (omega arith) (omega arith))

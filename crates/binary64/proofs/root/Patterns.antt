@@ -23,7 +23,9 @@ root-positive (inf s) a p v = absurd v
 root-positive (fin true m e) a p v = absurd (true≢false v.0)
 root-positive (fin false zero e) a p v = absurd (no_zero e a p v.1)
 root-positive (fin false (suc m) e) a p v =
-    ap (nearest_root binary64) (ap (λ (x : ℕ). x * 2 ^ 1074 / down e) v.1 ∙ ap (λ (x : ℕ). x / down e) (mul_right_comm a (down e) (2 ^ 1074)) ∙ mul-div_cancel (a * 2 ^ 1074) (down_pos e))
+    ap (nearest_root binary64)
+    (ap (λ (x : ℕ). x * 2 ^ 1074 / down e) v.1 ∙ ap (λ (x : ℕ). x / down e) (mul_right_comm a (down e) (2 ^ 1074))
+    ∙ mul-div_cancel (a * 2 ^ 1074) (down_pos e))
 
 root_negative : (x : Float) (a : ℕ) → 0 < a → HasValue x true a (2 ^ 1074) → root x ≡ nan
 unfolding root_in
@@ -43,7 +45,8 @@ of_bits_is b = refl
 unsigned : (b : ℕ) → b < 2 ^ 63 → of_bits binary64 b ≡ of_fields binary64 false (b / 2 ^ 52) (b % 2 ^ 52)
 unsigned b h =
     of_bits_is b
-    ∙ ap (λ (s : Bool). of_fields binary64 s (b % 2 ^ 63 / 2 ^ 52) (b % 2 ^ 52)) (is_false (leb (2 ^ 63) b) (not_T (leb (2 ^ 63) b) (λ (u : T (leb (2 ^ 63) b)). not-le_of_lt h (leb→le (2 ^ 63) b u))))
+    ∙ ap (λ (s : Bool). of_fields binary64 s (b % 2 ^ 63 / 2 ^ 52) (b % 2 ^ 52))
+    (is_false (leb (2 ^ 63) b) (not_T (leb (2 ^ 63) b) (λ (u : T (leb (2 ^ 63) b)). not-le_of_lt h (leb→le (2 ^ 63) b u))))
     ∙ ap (λ (x : ℕ). of_fields binary64 false (x / 2 ^ 52) (b % 2 ^ 52)) (mod-eq_of_lt h)
 
 low_field : (t : ℕ) → of_fields binary64 false 0 t ≡ odd 53 false t 0 1074
@@ -52,7 +55,9 @@ low_field t = refl
 
 mid_field : (x t : ℕ) → suc x < 2047 → of_fields binary64 false (suc x) t ≡ odd 53 false (2 ^ 52 + t) x 1074
 unfolding of_fields
-mid_field x t h = cond_no (eqb (suc x) 2047) (cond (eqb t 0) (inf false) nan) (odd 53 false (2 ^ 52 + t) x 1074) (not_T (eqb (suc x) 2047) (λ (u : T (eqb (suc x) 2047)). differ (eqb→eq (suc x) 2047 u)))
+mid_field x t h =
+    cond_no (eqb (suc x) 2047) (cond (eqb t 0) (inf false) nan) (odd 53 false (2 ^ 52 + t) x 1074)
+    (not_T (eqb (suc x) 2047) (λ (u : T (eqb (suc x) 2047)). differ (eqb→eq (suc x) 2047 u)))
   where
     differ : suc x ≡ 2047 → ⊥
     differ e = omega arith
@@ -73,7 +78,8 @@ pub normal_is : (b : ℕ) → 2 ^ 52 ≤ b → b < 0x7ff0_0000_0000_0000 → Pos
 normal_is b lo hi =
     let x = b / 2 ^ 52 - 1 in
     let t = b % 2 ^ 52 in
-    let is : of_bits binary64 b ≡ odd 53 false (2 ^ 52 + t) x 1074 = unsigned b (omega arith) ∙ ap (λ (y : ℕ). of_fields binary64 false y t) (field b lo) ∙ mid_field x t (omega arith) in
+    let is : of_bits binary64 b ≡ odd 53 false (2 ^ 52 + t) x 1074 = unsigned b (omega arith) ∙ ap (λ (y : ℕ). of_fields binary64 false y t) (field b lo)
+    ∙ mid_field x t (omega arith) in
     record {
       a = (2 ^ 52 + t) * 2 ^ x;
       some = mul-pos (omega arith) (pow_pos x);
@@ -114,7 +120,8 @@ subnormal_is b z lo hi zl =
     whole : (c : ℕ) → c ≤ 1074 → c + (1074 - c) ≡ 1074
     whole c h = omega arith
 
-pub normal : (b : ℕ) → 2 ^ 52 ≤ b → b < 0x7ff0_0000_0000_0000 → root (of_bits binary64 b) ≡ nearest_root binary64 ((b % 2 ^ 52 + 2 ^ 52) * 2 ^ (b / 2 ^ 52 + 1073))
+pub normal : (b : ℕ) → 2 ^ 52 ≤ b → b < 0x7ff0_0000_0000_0000
+    → root (of_bits binary64 b) ≡ nearest_root binary64 ((b % 2 ^ 52 + 2 ^ 52) * 2 ^ (b / 2 ^ 52 + 1073))
 normal b lo hi = root_of (of_bits binary64 b) ((b % 2 ^ 52 + 2 ^ 52) * 2 ^ (b / 2 ^ 52 + 1073)) (normal_is b lo hi)
 
 pub subnormal : (b z : ℕ) → 0 < b → b < 2 ^ 52 → z ≤ 1074 → root (of_bits binary64 b) ≡ nearest_root binary64 (b * 2 ^ z * 2 ^ (1074 - z))
@@ -130,11 +137,13 @@ below-zero (suc x) t h = go (eqb (suc x) 2047) (eqb t 0)
     go : (p q : Bool) → root (cond p (cond q (inf true) nan) (odd 53 true (2 ^ 52 + t) x 1074)) ≡ nan
     go true true = unfold root_in in refl
     go true false = unfold root_in in refl
-    go false q = root_negative (odd 53 true (2 ^ 52 + t) x 1074) ((2 ^ 52 + t) * 2 ^ x) (mul-pos (omega arith) (pow_pos x)) (odd_sign 53 true (2 ^ 52 + t) x 1074)
+    go false q =
+        root_negative (odd 53 true (2 ^ 52 + t) x 1074) ((2 ^ 52 + t) * 2 ^ x) (mul-pos (omega arith) (pow_pos x)) (odd_sign 53 true (2 ^ 52 + t) x 1074)
 
 pub negative : (b : ℕ) → 2 ^ 63 < b → b < 2 ^ 64 → root (of_bits binary64 b) ≡ nan
 negative b lo hi =
-    ap (root) (of_bits_is b ∙ ap (λ (s : Bool). of_fields binary64 s (b % 2 ^ 63 / 2 ^ 52) (b % 2 ^ 52)) (is_true (leb (2 ^ 63) b) (le→leb (2 ^ 63) b (le_of_lt lo))))
+    ap (root) (of_bits_is b
+    ∙ ap (λ (s : Bool). of_fields binary64 s (b % 2 ^ 63 / 2 ^ 52) (b % 2 ^ 52)) (is_true (leb (2 ^ 63) b) (le→leb (2 ^ 63) b (le_of_lt lo))))
     ∙ below-zero (b % 2 ^ 63 / 2 ^ 52) (b % 2 ^ 52) (omega arith)
 
 -- ---- the others
@@ -167,7 +176,8 @@ of_zero x b p q = itself x b 0 p q root-zero
 -- from the infinity's pattern to that of -0 no other is a number's
 pub of_ends : (x : Float) (b : ℕ) → of_bits binary64 b ≡ x → T (not (is_nan x)) → 0x7ff0_0000_0000_0000 ≤ b → b ≤ 2 ^ 63 → x ≡ root x
 of_ends x b p n lo hi =
-    let r : b % 2 ^ 63 ≤ 0x7ff0_0000_0000_0000 = nltb→le 0x7ff0_0000_0000_0000 (b % 2 ^ 63) (subst (λ (t : Bool). T (not t)) (sym (ap is_nan p) ∙ sym (nan_bits_is binary64 b) ∙ nan_bits_above binary64 b) n) in
+    let r : b % 2 ^ 63 ≤ 0x7ff0_0000_0000_0000 = nltb→le 0x7ff0_0000_0000_0000 (b % 2 ^ 63)
+    (subst (λ (t : Bool). T (not t)) (sym (ap is_nan p) ∙ sym (nan_bits_is binary64 b) ∙ nan_bits_above binary64 b) n) in
     go r (eq-or-lt_of_le hi)
   where
     least : b % 2 ^ 63 ≤ 0x7ff0_0000_0000_0000 → b < 2 ^ 63 → b ≡ 0x7ff0_0000_0000_0000
@@ -179,7 +189,9 @@ of_ends x b p n lo hi =
 
 -- ---- the shift of a subnormal value's digits
 
-pub shift_of : (b : ℕ) → 0 < b → b < 2 ^ 52 → (12 ≤ count_leading_zeros 64 b) × (count_leading_zeros 64 b ≤ 63) × (2 ^ 52 ≤ b * 2 ^ (count_leading_zeros 64 b - 11)) × (b * 2 ^ (count_leading_zeros 64 b - 11) < 2 ^ 53)
+pub shift_of : (b : ℕ) → 0 < b → b < 2 ^ 52
+    → (12 ≤ count_leading_zeros 64 b) × (count_leading_zeros 64 b ≤ 63) × (2 ^ 52 ≤ b * 2 ^ (count_leading_zeros 64 b - 11))
+    × (b * 2 ^ (count_leading_zeros 64 b - 11) < 2 ^ 53)
 shift_of b lo hi =
     let l = leading_top 64 b lo (lt_of_lt_of_le hi (lit≤ tt)) in
     let z = count_leading_zeros 64 b in
@@ -279,7 +291,8 @@ no_high_bits b m e q lo hi = go (ltb b (2 ^ 63)) (ltb→lt b (2 ^ 63)) (nltb→l
     go true l g = full_field (b % 2 ^ 52) m e (ap (λ (x : ℕ). of_fields binary64 false x (b % 2 ^ 52)) (sym (full b lo (l tt))) ∙ sym (unsigned b (l tt)) ∙ q)
     go false l g =
         signed_fields (b % 2 ^ 63 / 2 ^ 52) (b % 2 ^ 52) m e
-        (ap (λ (s : Bool). of_fields binary64 s (b % 2 ^ 63 / 2 ^ 52) (b % 2 ^ 52)) (sym (is_true (leb (2 ^ 63) b) (le→leb (2 ^ 63) b (g tt)))) ∙ sym (of_bits_is b) ∙ q)
+        (ap (λ (s : Bool). of_fields binary64 s (b % 2 ^ 63 / 2 ^ 52) (b % 2 ^ 52)) (sym (is_true (leb (2 ^ 63) b) (le→leb (2 ^ 63) b (g tt))))
+        ∙ sym (of_bits_is b) ∙ q)
 
 pub usable_bits : (x : Float) → T (fits binary64 x) → T (is_usable x) → (0 < to_bits binary64 x) × (to_bits binary64 x < 0x7ff0_0000_0000_0000)
 usable_bits nan F u = absurd u
@@ -287,5 +300,8 @@ usable_bits (inf s) F u = absurd u
 usable_bits (fin true m e) F u = absurd (no_negative m e u)
 usable_bits (fin false m e) F u =
     let b = to_bits binary64 (fin false m e) in
-    let is = of_bits-to_bits binary64 (fin false m e) F in
-    (elim (eq-zero-or-pos b) [ inl z ↦ absurd (no_zero_bits b m e is u z) | inr p ↦ p ], lt_of_not-le (λ (g : 0x7ff0_0000_0000_0000 ≤ b). no_high_bits b m e is g (to_bits-lt binary64 (fin false m e) F)))
+    let is = of_bits-to_bits binary64 (fin false m e) F in (
+      elim (eq-zero-or-pos b) [ inl z ↦ absurd (no_zero_bits b m e is u z) | inr p ↦ p ],
+      lt_of_not-le
+          (λ (g : 0x7ff0_0000_0000_0000 ≤ b). no_high_bits b m e is g (to_bits-lt binary64 (fin false m e) F)),
+    )

@@ -1,4 +1,5 @@
--- The root that the test settles (`Settled.antt`), by bit patterns: of y, of the number near its root and of the root, and back to the pattern that y was brought from. Assumes nothing.
+-- The root that the test settles (`Settled.antt`), by bit patterns: of y, of the number near its root and of the root,
+-- and back to the pattern that y was brought from. Assumes nothing.
 use Rattle.std.proofs.Common.{◌≡◌, ℕ, ◌+◌, ◌-◌, ◌*◌, ◌/◌, ◌%◌, ◌^◌, ◌<◌, ◌≤◌, false, not, T, sym, refl, ap, ◌∙◌, subst, mul-le-mul_right, mul_assoc, arith, lit≤, pow-add}
 use lib.Arith.{digits_mod}
 use lib.Ieee.{Float, nan, inf, fin, binary64, add, sub, mul, neg, le, is_nan, of_bits}
@@ -25,7 +26,9 @@ nan_fails u t = t
 
 pub tested_number : (y s g : Float) → Tested y s g → T (not (is_nan g))
 unfolding is_nan
-tested_number y s nan t = nan_fails (mul binary64 (mul binary64 s s) margin) (subst (λ (r : Float). T (le (mul binary64 r r) (mul binary64 (mul binary64 s s) margin))) (rest-nan y s) t)
+tested_number y s nan t =
+    nan_fails (mul binary64 (mul binary64 s s) margin)
+    (subst (λ (r : Float). T (le (mul binary64 r r) (mul binary64 (mul binary64 s s) margin))) (rest-nan y s) t)
 tested_number y s (inf o) t = tt
 tested_number y s (fin o m e) t = tt
 
@@ -39,7 +42,9 @@ y_value b a o lo hi l e =
     (subst (λ (k : ℕ). Value (of_bits binary64 k) false (a * 2 ^ (1022 + o))) (sym e) (value_at a (1022 + o) lo hi (omega (arith, l))))
   where
     scaled : a * 2 ^ (1022 + o) ≡ (a + o * a) * 2 ^ 1022
-    scaled = ap (λ (x : ℕ). a * x) (ap (λ (x : ℕ). 2 ^ x) (turned 1022 o) ∙ pow-add 2 o 1022) ∙ sym (mul_assoc a (2 ^ o) (2 ^ 1022)) ∙ ap (λ (x : ℕ). x * 2 ^ 1022) (sym (doubled a o l))
+    scaled =
+        ap (λ (x : ℕ). a * x) (ap (λ (x : ℕ). 2 ^ x) (turned 1022 o) ∙ pow-add 2 o 1022) ∙ sym (mul_assoc a (2 ^ o) (2 ^ 1022))
+        ∙ ap (λ (x : ℕ). x * 2 ^ 1022) (sym (doubled a o l))
       where
         turned : (i j : ℕ) → i + j ≡ j + i
         turned i j = omega arith
@@ -85,7 +90,8 @@ module _ (b near r : ℕ) (lo : 0x3ff0_0000_0000_0000 ≤ b) (hi : b < 0x4010_00
         near =
             settled (a + o * a) d h (of_bits binary64 b) (of_bits binary64 near) (of_bits binary64 r) st.least st.most h-least h-most (omega (arith, once, al))
             (y_value b a o (omega arith) al ol (omega (arith, lo, hi)))
-            (subst (λ (k : ℕ). Value (of_bits binary64 k) false (d * 2 ^ 27 * 2 ^ 1022)) (sym near_is) (value_at (d * 2 ^ 27) 1022 (digits_least st.least) (digits_most st.most) (lit≤ tt)))
+            (subst (λ (k : ℕ). Value (of_bits binary64 k) false (d * 2 ^ 27 * 2 ^ 1022)) (sym near_is)
+            (value_at (d * 2 ^ 27) 1022 (digits_least st.least) (digits_most st.most) (lit≤ tt)))
             (subst (λ (k : ℕ). Value (of_bits binary64 k) false (h * 2 ^ 1022)) (sym is) (value_at h 1022 h-least h-most (lit≤ tt)))
             (over h is near_is) (under h is near_is) tested;
       }
@@ -120,7 +126,8 @@ start_of b = record { digits = b % 2 ^ 52 / 2 ^ 27 + 2 ^ 25; least = omega arith
 pub record Placed (b r : ℕ) : Type 0 where
   pub least : 1023 * 2 ^ 52 ≤ r
   pub above : r < 1024 * 2 ^ 52
-  pub root : of_bits binary64 ((b + 2 ^ 52) / 2 ^ 53 * 2 ^ 52 + r - 0x2000_0000_0000_0000) ≡ nearest_root binary64 ((b % 2 ^ 52 + 2 ^ 52) * 2 ^ (b / 2 ^ 52 + 1073))
+  pub root : of_bits binary64 ((b + 2 ^ 52) / 2 ^ 53 * 2 ^ 52 + r - 0x2000_0000_0000_0000)
+      ≡ nearest_root binary64 ((b % 2 ^ 52 + 2 ^ 52) * 2 ^ (b / 2 ^ 52 + 1073))
 
 -- an exponent's parity is the last digit of what is left of it
 parity_of : (b : ℕ) → ((b + 2 ^ 52) % 2 ^ 53 + 0x3ff0_0000_0000_0000) / 2 ^ 52 - 1023 ≡ (b / 2 ^ 52 + 1073) % 2
@@ -149,7 +156,8 @@ placed b r lo hi s =
     let e = b / 2 ^ 52 + 1073 in
     let same : y % 2 ^ 52 + 2 ^ 52 ≡ a = omega arith in
     let parity : y / 2 ^ 52 - 1023 ≡ e % 2 = parity_of b in
-    let near : Near (a + e % 2 * a) s.digits = subst (λ (k : ℕ). Near (k + e % 2 * k) s.digits) same (subst (λ (k : ℕ). Near (y % 2 ^ 52 + 2 ^ 52 + k * (y % 2 ^ 52 + 2 ^ 52)) s.digits) parity s.near) in
+    let near : Near (a + e % 2 * a) s.digits = subst (λ (k : ℕ). Near (k + e % 2 * k) s.digits) same
+    (subst (λ (k : ℕ). Near (y % 2 ^ 52 + 2 ^ 52 + k * (y % 2 ^ 52 + 2 ^ 52)) s.digits) parity s.near) in
     let al : a < 2 ^ 53 = omega arith in
     let once : e % 2 * a ≤ 1 * a = mul-le-mul_right a (omega arith) in
     let least : 2 ^ 52 ≤ s.digits = near_low (a + e % 2 * a) s.digits (omega arith) near in
@@ -167,5 +175,6 @@ placed b r lo hi s =
     high : (r d : ℕ) → r ≡ 1022 * 2 ^ 52 + d → d < 2 ^ 53 → r < 1024 * 2 ^ 52
     high r d e l = omega (arith, e, l)
 
-    pattern : (b r d : ℕ) → 2 ^ 52 ≤ b → r ≡ 1022 * 2 ^ 52 + d → (b + 2 ^ 52) / 2 ^ 53 * 2 ^ 52 + r - 0x2000_0000_0000_0000 ≡ (b / 2 ^ 52 + 1073 - 52) / 2 * 2 ^ 52 + d
+    pattern : (b r d : ℕ) → 2 ^ 52 ≤ b → r ≡ 1022 * 2 ^ 52 + d
+        → (b + 2 ^ 52) / 2 ^ 53 * 2 ^ 52 + r - 0x2000_0000_0000_0000 ≡ (b / 2 ^ 52 + 1073 - 52) / 2 * 2 ^ 52 + d
     pattern b r d l e = omega (arith, l, e)

@@ -34,7 +34,9 @@ square_units M i = ap (λ (x : ℕ). x * 2 ^ 1074) (square_at M i) ∙ mul_assoc
 root_units : (q o i : ℕ) → q * 2 ^ (52 + o + (i + i)) * 2 ^ 1074 ≡ q * 2 ^ o * 2 ^ 52 * (2 ^ (537 + i) * 2 ^ (537 + i))
 root_units q o i =
     mul_assoc q (2 ^ (52 + o + (i + i))) (2 ^ 1074)
-    ∙ ap (λ (x : ℕ). q * x) (sym (pow-add 2 (52 + o + (i + i)) 1074) ∙ ap (λ (x : ℕ). 2 ^ x) (sums o i) ∙ pow-add 2 (o + 52) (537 + i + (537 + i)) ∙ ap (λ (x : ℕ). x * 2 ^ (537 + i + (537 + i))) (pow-add 2 o 52) ∙ ap (λ (x : ℕ). 2 ^ o * 2 ^ 52 * x) (pow-add 2 (537 + i) (537 + i)))
+    ∙ ap (λ (x : ℕ). q * x)
+    (sym (pow-add 2 (52 + o + (i + i)) 1074) ∙ ap (λ (x : ℕ). 2 ^ x) (sums o i) ∙ pow-add 2 (o + 52) (537 + i + (537 + i))
+    ∙ ap (λ (x : ℕ). x * 2 ^ (537 + i + (537 + i))) (pow-add 2 o 52) ∙ ap (λ (x : ℕ). 2 ^ o * 2 ^ 52 * x) (pow-add 2 (537 + i) (537 + i)))
     ∙ sym (mul_assoc q (2 ^ o * 2 ^ 52) (2 ^ (537 + i) * 2 ^ (537 + i)))
     ∙ ap (λ (x : ℕ). x * (2 ^ (537 + i) * 2 ^ (537 + i))) (sym (mul_assoc q (2 ^ o) (2 ^ 52)))
   where
@@ -54,7 +56,8 @@ module _ (M i o : ℕ) (lo : 2 ^ 52 ≤ M) (il : i ≤ 900) (ol : o ≤ 1) where
   abbrev g : Float
   g = odd 54 false M (537 + i) 1074
 
-  from_digits : size (M * M * 2 ^ (i + i)) ≡ 53 + (52 + o + (i + i)) → 2 ^ 52 ≤ q * 2 ^ o → q * 2 ^ o + 2 ≤ 2 ^ 54 → q ≤ 2 ^ 53 → Near (q * 2 ^ o) M → Returned g
+  from_digits : size (M * M * 2 ^ (i + i)) ≡ 53 + (52 + o + (i + i)) → 2 ^ 52 ≤ q * 2 ^ o → q * 2 ^ o + 2 ≤ 2 ^ 54 → q ≤ 2 ^ 53 → Near (q * 2 ^ o) M
+      → Returned g
   from_digits digits low high top near =
       let k = 537 + i in
       let n = M * M * 2 ^ (i + i) in
@@ -63,18 +66,24 @@ module _ (M i o : ℕ) (lo : 2 ^ 52 ≤ M) (il : i ≤ 900) (ol : o ≤ 1) where
       let some : 0 < M = lt_of_lt_of_le (pow_pos 52) lo in
       let p : T (positive g) = positive_of_value g (M * 2 ^ k) (2 ^ 1074) v (mul-pos some (pow_pos k)) in
       let drops : cut 53 n ≡ c = ap (λ (x : ℕ). x - 53) digits ∙ less c in
-      let same : closest n (2 ^ c) ≡ q = closest_same n (2 ^ c) (M * M) (2 ^ (52 + o)) (pow_pos c) (pow_pos (52 + o)) (mul_assoc (M * M) (2 ^ (i + i)) (2 ^ (52 + o)) ∙ ap (λ (x : ℕ). M * M * x) (sym (pow-add 2 (i + i) (52 + o)) ∙ ap (λ (x : ℕ). 2 ^ x) (turned (i + i) (52 + o)))) in
+      let same : closest n (2 ^ c)
+      ≡ q = closest_same n (2 ^ c) (M * M) (2 ^ (52 + o)) (pow_pos c) (pow_pos (52 + o))
+      (mul_assoc (M * M) (2 ^ (i + i)) (2 ^ (52 + o))
+      ∙ ap (λ (x : ℕ). M * M * x) (sym (pow-add 2 (i + i) (52 + o)) ∙ ap (λ (x : ℕ). 2 ^ x) (turned (i + i) (52 + o)))) in
       let is : mul binary64 g g ≡ make binary64 false q c =
       mul_at binary64 g g (M * 2 ^ k) (2 ^ 1074) (M * 2 ^ k) (2 ^ 1074) p p (pow_pos 1074) (pow_pos 1074) v v
       ∙ round_at binary64 false (M * 2 ^ k * (M * 2 ^ k)) (2 ^ 1074 * 2 ^ 1074) n (mul-pos (pow_pos 1074) (pow_pos 1074)) (square_units M i)
       ∙ ap (λ (x : ℕ). make binary64 false (closest n (2 ^ x)) x) drops
       ∙ ap (λ (x : ℕ). make binary64 false x c) same in
       let room : q * 2 ^ c < 2 ^ 2098 = lt_of_le_of_lt (mul-le-mul_right (2 ^ c) top) (within c (omega (arith, il, ol))) in
-      let w : HasValue (mul binary64 g g) false (q * 2 ^ c) (2 ^ 1074) = subst (λ (x : Float). HasValue x false (q * 2 ^ c) (2 ^ 1074)) (sym is) (units_val binary64 false q c room) in
+      let w : HasValue (mul binary64 g g) false (q * 2 ^ c) (2 ^ 1074) = subst (λ (x : Float). HasValue x false (q * 2 ^ c) (2 ^ 1074)) (sym is)
+      (units_val binary64 false q c room) in
       let above : 0 < q = first q (2 ^ o) (lt_of_lt_of_le (pow_pos 52) low) in
       record {
         some = positive_of_value (mul binary64 g g) (q * 2 ^ c) (2 ^ 1074) w (mul-pos above (pow_pos c));
-        back = root-positive (mul binary64 g g) (q * 2 ^ c) (mul-pos above (pow_pos c)) w ∙ ap (nearest_root binary64) (root_units q o i) ∙ nearest_root_near (q * 2 ^ o) M k low high (omega (arith, il)) near;
+        back =
+            root-positive (mul binary64 g g) (q * 2 ^ c) (mul-pos above (pow_pos c)) w ∙ ap (nearest_root binary64) (root_units q o i)
+            ∙ nearest_root_near (q * 2 ^ o) M k low high (omega (arith, il)) near;
       }
     where
       less : (x : ℕ) → 53 + x - 53 ≡ x
@@ -96,10 +105,20 @@ module _ (M i o : ℕ) (lo : 2 ^ 52 ≤ M) (il : i ≤ 900) (ol : o ≤ 1) where
 -- ---- the two lengths of a square of 53 digits: S stands for M * M, and q is its quotient, to the nearest, by 2 ^ 52 or by 2 ^ 53
 
 near_short : (S M q : ℕ) → 2 ^ 52 ≤ M → M * M ≡ S → gap (q * 2 ^ 52) S * 2 ≤ 2 ^ 52 → Near (q * 2 ^ 0) M
-near_short S M q lo e h = record { above = subst (λ (x : ℕ). x < q * 2 ^ 0 * 2 ^ 52 + M) (sym e) (omega (arith, h, lo)); under = subst (λ (x : ℕ). q * 2 ^ 0 * 2 ^ 52 ≤ x + M) (sym e) (omega (arith, h, lo)) }
+near_short S M q lo e h =
+    record {
+      above = subst (λ (x : ℕ). x < q * 2 ^ 0 * 2 ^ 52 + M) (sym e) (omega (arith, h, lo));
+      under = subst (λ (x : ℕ). q * 2 ^ 0 * 2 ^ 52 ≤ x + M)
+          (sym e) (omega (arith, h, lo));
+    }
 
 near_long : (S M q : ℕ) → 2 ^ 52 < M → M * M ≡ S → gap (q * 2 ^ 53) S * 2 ≤ 2 ^ 53 → Near (q * 2 ^ 1) M
-near_long S M q lo e h = record { above = subst (λ (x : ℕ). x < q * 2 ^ 1 * 2 ^ 52 + M) (sym e) (omega (arith, h, lo)); under = subst (λ (x : ℕ). q * 2 ^ 1 * 2 ^ 52 ≤ x + M) (sym e) (omega (arith, h, lo)) }
+near_long S M q lo e h =
+    record {
+      above = subst (λ (x : ℕ). x < q * 2 ^ 1 * 2 ^ 52 + M) (sym e) (omega (arith, h, lo));
+      under = subst (λ (x : ℕ). q * 2 ^ 1 * 2 ^ 52 ≤ x + M)
+          (sym e) (omega (arith, h, lo));
+    }
 
 -- how many digits S * 2 ^ j has
 pub digits_of : (S a j : ℕ) → 2 ^ a ≤ S → S < 2 ^ suc a → size (S * 2 ^ j) ≡ suc (a + j)
@@ -132,7 +151,8 @@ returned M i lo hi il = go (under_or_from (M * M) (2 ^ 105))
     short : (S q : ℕ) → 2 ^ 104 ≤ S → S < 2 ^ 105 → gap (q * 2 ^ 52) S * 2 ≤ 2 ^ 52 → (2 ^ 52 ≤ q * 2 ^ 0) × (q * 2 ^ 0 + 2 ≤ 2 ^ 54) × (q ≤ 2 ^ 53)
     short S q a b h = (omega (arith, a, b, h), omega (arith, a, b, h), omega (arith, a, b, h))
 
-    long : (S q : ℕ) → 2 ^ 105 ≤ S → S ≤ (2 ^ 53 - 1) * (2 ^ 53 - 1) → gap (q * 2 ^ 53) S * 2 ≤ 2 ^ 53 → (2 ^ 52 ≤ q * 2 ^ 1) × (q * 2 ^ 1 + 2 ≤ 2 ^ 54) × (q ≤ 2 ^ 53)
+    long : (S q : ℕ) → 2 ^ 105 ≤ S → S ≤ (2 ^ 53 - 1) * (2 ^ 53 - 1) → gap (q * 2 ^ 53) S * 2 ≤ 2 ^ 53
+        → (2 ^ 52 ≤ q * 2 ^ 1) × (q * 2 ^ 1 + 2 ≤ 2 ^ 54) × (q ≤ 2 ^ 53)
     long S q a b h = (omega (arith, a, b, h), omega (arith, a, b, h), omega (arith, a, b, h))
 
     under_top : (S : ℕ) → S ≤ (2 ^ 53 - 1) * (2 ^ 53 - 1) → S < 2 ^ 106
@@ -145,11 +165,13 @@ returned M i lo hi il = go (under_or_from (M * M) (2 ^ 105))
     go (inl l) =
         let h = half_off (M * M) (2 ^ 52) (pow_pos 52) in
         let b = short (M * M) (closest (M * M) (2 ^ 52)) least l h in
-        from_digits M i 0 lo il (omega arith) (digits_of (M * M) 104 (i + i) least l ∙ grouped 52 (i + i)) b.0 b.1 b.2 (near_short (M * M) M (closest (M * M) (2 ^ 52)) lo refl h)
+        from_digits M i 0 lo il (omega arith) (digits_of (M * M) 104 (i + i) least l ∙ grouped 52 (i + i)) b.0 b.1 b.2
+        (near_short (M * M) M (closest (M * M) (2 ^ 52)) lo refl h)
     go (inr l) =
         let h = half_off (M * M) (2 ^ 53) (pow_pos 53) in
         let b = long (M * M) (closest (M * M) (2 ^ 53)) l most h in
-        from_digits M i 1 lo il (omega arith) (digits_of (M * M) 105 (i + i) l (under_top (M * M) most) ∙ grouped 53 (i + i)) b.0 b.1 b.2 (near_long (M * M) M (closest (M * M) (2 ^ 53)) (more l) refl h)
+        from_digits M i 1 lo il (omega arith) (digits_of (M * M) 105 (i + i) l (under_top (M * M) most) ∙ grouped 53 (i + i)) b.0 b.1 b.2
+        (near_long (M * M) M (closest (M * M) (2 ^ 53)) (more l) refl h)
 
 -- by a bit pattern
 pub returned_bits : (b : ℕ) → 0x21a0_0000_0000_0000 ≤ b → b < 0x59f0_0000_0000_0000 → Returned (of_bits binary64 b)
@@ -192,12 +214,17 @@ same-root (fin false (suc m) e) (fin false zero d) p h =
     none x l q = omega (arith, l, q)
 same-root (fin false (suc m) e) (fin false (suc n) d) p h =
     let z = equal_of (suc m * up e * down d) (suc n * up d * down e) (beq false false || eqb (suc m * up e * down d) 0) h in
-    ap (nearest_root binary64) (div_same (suc m * up e * 2 ^ 1074 * 2 ^ 1074) (down e) (suc n * up d * 2 ^ 1074 * 2 ^ 1074) (down d) (down_pos e) (down_pos d) (moved (suc m * up e) (suc n * up d) (down e) (down d) (2 ^ 1074) z))
+    ap (nearest_root binary64)
+    (div_same (suc m * up e * 2 ^ 1074 * 2 ^ 1074) (down e) (suc n * up d * 2 ^ 1074 * 2 ^ 1074) (down d) (down_pos e) (down_pos d)
+    (moved (suc m * up e) (suc n * up d) (down e) (down d) (2 ^ 1074) z))
   where
     moved : (u v x y w : ℕ) → u * y ≡ v * x → u * w * w * y ≡ v * w * w * x
-    moved u v x y w q = mul_right_comm (u * w) w y ∙ ap (λ (k : ℕ). k * w) (mul_right_comm u w y ∙ ap (λ (k : ℕ). k * w) q ∙ sym (mul_right_comm v w x)) ∙ sym (mul_right_comm (v * w) w x)
+    moved u v x y w q =
+        mul_right_comm (u * w) w y ∙ ap (λ (k : ℕ). k * w) (mul_right_comm u w y ∙ ap (λ (k : ℕ). k * w) q ∙ sym (mul_right_comm v w x))
+        ∙ sym (mul_right_comm (v * w) w x)
 
-pub root_guessed : (x guess : Float) (b : ℕ) → of_bits binary64 b ≡ guess → eq (mul binary64 guess guess) x ≡ true → 0x21a0_0000_0000_0000 ≤ b → b < 0x59f0_0000_0000_0000 → guess ≡ root x
+pub root_guessed : (x guess : Float) (b : ℕ) → of_bits binary64 b ≡ guess → eq (mul binary64 guess guess) x ≡ true → 0x21a0_0000_0000_0000 ≤ b
+    → b < 0x59f0_0000_0000_0000 → guess ≡ root x
 root_guessed x guess b e h lo hi =
     let r = subst Returned e (returned_bits b lo hi) in
     sym r.back ∙ same-root (mul binary64 guess guess) x r.some h

@@ -55,20 +55,27 @@ sq_lt_back x y h = lt_of_not-le (λ (g : y ≤ x). not-le_of_lt h (mul-le-mul g 
 floor_of : (M P w s : ℕ) → 0 < P → M * (P * P) ≡ w → s * s ≤ w → w < (s + 1) * (s + 1) → (s / P * (s / P) ≤ M) × (M < (s / P + 1) * (s / P + 1))
 floor_of M P w s pp e lo hi =
     let q = s / P in
-    let a : q * q * (P * P) ≤ M * (P * P) = le_trans (le_of_eq (sym (mul-mul-mul_comm q P q P))) (le_trans (mul-le-mul (div-mul-le_self s P) (div-mul-le_self s P)) (le_trans lo (le_of_eq (sym e)))) in
+    let a : q * q * (P * P) ≤ M * (P * P) = le_trans (le_of_eq (sym (mul-mul-mul_comm q P q P)))
+    (le_trans (mul-le-mul (div-mul-le_self s P) (div-mul-le_self s P)) (le_trans lo (le_of_eq (sym e)))) in
     let b : s < (q + 1) * P = (div-lt_iff_lt-mul pp).0 (lt-add-one q) in
     let c : s + 1 ≤ (q + 1) * P = le_trans (le_of_eq (add-one s)) b in
-    let d : M * (P * P) < (q + 1) * (q + 1) * (P * P) = lt_of_lt_of_le (lt_of_le_of_lt (le_of_eq e) hi) (le_trans (mul-le-mul c c) (le_of_eq (mul-mul-mul_comm (q + 1) P (q + 1) P))) in
+    let d : M * (P * P) < (q + 1) * (q + 1) * (P * P) = lt_of_lt_of_le (lt_of_le_of_lt (le_of_eq e) hi)
+    (le_trans (mul-le-mul c c) (le_of_eq (mul-mul-mul_comm (q + 1) P (q + 1) P))) in
     (le_of_mul-le-mul_right a (mul-pos pp pp), lt_of_mul-lt-mul_right (P * P) d)
 
 pub size_exact : (a n : ℕ) → 2 ^ a ≤ n → n < 2 ^ suc a → size n ≡ suc a
-size_exact a n lo hi = le_antisymm (size-le n (suc a) hi) (lt_of_not-le (λ (g : size n ≤ a). lt_irrefl n (lt_of_lt_of_le (size-lt n) (le_trans (pow_mono g) lo))))
+size_exact a n lo hi =
+    le_antisymm (size-le n (suc a) hi) (lt_of_not-le (λ (g : size n ≤ a). lt_irrefl n (lt_of_lt_of_le (size-lt n) (le_trans (pow_mono g) lo))))
 
 size_of : (M k w s : ℕ) → 2 ^ 104 ≤ M → M < 2 ^ 106 → M * (2 ^ k * 2 ^ k) ≡ w → s * s ≤ w → w < (s + 1) * (s + 1) → size s ≡ suc (52 + k)
 size_of M k w s m n e lo hi =
     let P = 2 ^ k in
-    let a : 2 ^ 52 * P < s + 1 = sq_lt_back (2 ^ 52 * P) (s + 1) (lt_of_le_of_lt (le_trans (le_of_eq (mul-mul-mul_comm (2 ^ 52) P (2 ^ 52) P)) (le_trans (mul-le-mul_right (P * P) m) (le_of_eq e))) hi) in
-    let b : s < 2 ^ 53 * P = sq_lt_back s (2 ^ 53 * P) (lt_of_le_of_lt lo (lt_of_le_of_lt (le_of_eq (sym e)) (lt_of_lt_of_le (mul-lt-mul_of_pos_right n (mul-pos (pow_pos k) (pow_pos k))) (le_of_eq (sym (mul-mul-mul_comm (2 ^ 53) P (2 ^ 53) P)))))) in
+    let a : 2 ^ 52 * P < s + 1 = sq_lt_back (2 ^ 52 * P) (s + 1)
+    (lt_of_le_of_lt (le_trans (le_of_eq (mul-mul-mul_comm (2 ^ 52) P (2 ^ 52) P)) (le_trans (mul-le-mul_right (P * P) m) (le_of_eq e))) hi) in
+    let b : s < 2 ^ 53 * P = sq_lt_back s (2 ^ 53 * P)
+    (lt_of_le_of_lt lo
+    (lt_of_le_of_lt (le_of_eq (sym e))
+    (lt_of_lt_of_le (mul-lt-mul_of_pos_right n (mul-pos (pow_pos k) (pow_pos k))) (le_of_eq (sym (mul-mul-mul_comm (2 ^ 53) P (2 ^ 53) P)))))) in
     size_exact (52 + k) s
     (le_trans (le_of_eq (pow-add 2 52 k)) (le_of_suc-le-suc (le_trans a (le_of_eq (add-one s)))))
     (lt_of_lt_of_le b (le_of_eq (sym (pow-add 2 53 k) ∙ ap (λ (j : ℕ). 2 ^ j) (plus k))))
@@ -140,12 +147,14 @@ choose M P w h q pp e above under lo hi = go (eq-or-lt_of_le (at_most M h q unde
     go : (q ≡ h) ⊎ (q < h) → nearest q (compare (4 * w) ((2 * q + 1) * P * ((2 * q + 1) * P))) ≡ h
     go (inl s) =
         rounds_down q (4 * w) ((2 * q + 1) * P * ((2 * q + 1) * P))
-        (lt_of_le_of_lt (le_of_eq (four_times M P w e)) (lt_of_lt_of_le (mul-lt-mul_of_pos_right (down_case h (sym s) under) (mul-pos pp pp)) (le_of_eq (sym (double_square q P)))))
+        (lt_of_le_of_lt (le_of_eq (four_times M P w e))
+        (lt_of_lt_of_le (mul-lt-mul_of_pos_right (down_case h (sym s) under) (mul-pos pp pp)) (le_of_eq (sym (double_square q P)))))
         ∙ s
     go (inr l) =
         let s = is_next l (at_least M h q above hi) in
         rounds_up q (4 * w) ((2 * q + 1) * P * ((2 * q + 1) * P))
-        (lt_of_le_of_lt (le_of_eq (double_square q P)) (lt_of_lt_of_le (mul-lt-mul_of_pos_right (up_case h s above) (mul-pos pp pp)) (le_of_eq (sym (four_times M P w e)))))
+        (lt_of_le_of_lt (le_of_eq (double_square q P))
+        (lt_of_lt_of_le (mul-lt-mul_of_pos_right (up_case h s above) (mul-pos pp pp)) (le_of_eq (sym (four_times M P w e)))))
         ∙ sym (add-one q) ∙ s
 
 -- ---- h has 53 digits
@@ -157,7 +166,10 @@ near_low a h l n = le_of_suc-le-suc (lt_of_not-le (λ (g : suc h ≤ 2 ^ 52). no
     no p g = let s : h * suc h ≡ h * h + h = mul-suc h h in let u = n.under in omega arith
 
 pub near_high : (a h : ℕ) → a + 2 ≤ 2 ^ 54 → Near a h → h < 2 ^ 53
-near_high a h l n = lt_of_not-le (λ (g : 2 ^ 53 ≤ h). not-le_of_lt (lt_of_mul-lt-mul_left (2 ^ 53 - 1) (lt_of_lt_of_le (less h (h * h) (a * 2 ^ 52) (mul-le-mul_right h g) n.above) (mul-le-mul_right (2 ^ 52) (room a l)))) g)
+near_high a h l n =
+    lt_of_not-le
+    (λ (g : 2 ^ 53 ≤ h). not-le_of_lt
+    (lt_of_mul-lt-mul_left (2 ^ 53 - 1) (lt_of_lt_of_le (less h (h * h) (a * 2 ^ 52) (mul-le-mul_right h g) n.above) (mul-le-mul_right (2 ^ 52) (room a l)))) g)
   where
     less : (x s m : ℕ) → 2 ^ 53 * x ≤ s → s < m + x → (2 ^ 53 - 1) * x < m
     less x s m p q = omega arith
@@ -169,9 +181,14 @@ near_high a h l n = lt_of_not-le (λ (g : 2 ^ 53 ≤ h). not-le_of_lt (lt_of_mul
 
 nearest_root_is : (w k : ℕ) → size (whole_root (size w) w) - 53 ≡ k
     → nearest_root binary64 w
-    ≡ units binary64 false (nearest (whole_root (size w) w / 2 ^ k) (compare (4 * w) ((2 * (whole_root (size w) w / 2 ^ k) + 1) * 2 ^ k * ((2 * (whole_root (size w) w / 2 ^ k) + 1) * 2 ^ k)))) k
+    ≡ units binary64 false
+    (nearest (whole_root (size w) w / 2 ^ k)
+    (compare (4 * w) ((2 * (whole_root (size w) w / 2 ^ k) + 1) * 2 ^ k * ((2 * (whole_root (size w) w / 2 ^ k) + 1) * 2 ^ k)))) k
 unfolding nearest_root
-nearest_root_is w k e = ap (λ (j : ℕ). units binary64 false (nearest (whole_root (size w) w / 2 ^ j) (compare (4 * w) ((2 * (whole_root (size w) w / 2 ^ j) + 1) * 2 ^ j * ((2 * (whole_root (size w) w / 2 ^ j) + 1) * 2 ^ j)))) j) e
+nearest_root_is w k e =
+    ap (λ (j : ℕ). units binary64 false
+    (nearest (whole_root (size w) w / 2 ^ j)
+    (compare (4 * w) ((2 * (whole_root (size w) w / 2 ^ j) + 1) * 2 ^ j * ((2 * (whole_root (size w) w / 2 ^ j) + 1) * 2 ^ j)))) j) e
 
 in_range : (h k : ℕ) → h < 2 ^ 53 → k ≤ 2045 → h * 2 ^ k < 2 ^ 2098
 in_range h k l m = lt_of_lt_of_le (shl_lt 53 k l) (pow_mono (more k m))
@@ -187,7 +204,8 @@ units_is h k l m = cond_yes (ltb (h * 2 ^ k) (2 ^ 2098)) (lt→ltb (h * 2 ^ k) (
     cond_yes true t = refl
     cond_yes false t = absurd t
 
-pub nearest_root_near : (a h k : ℕ) → 2 ^ 52 ≤ a → a + 2 ≤ 2 ^ 54 → k ≤ 2045 → Near a h → nearest_root binary64 (a * 2 ^ 52 * (2 ^ k * 2 ^ k)) ≡ odd 54 false h k 1074
+pub nearest_root_near : (a h k : ℕ) → 2 ^ 52 ≤ a → a + 2 ≤ 2 ^ 54 → k ≤ 2045 → Near a h
+    → nearest_root binary64 (a * 2 ^ 52 * (2 ^ k * 2 ^ k)) ≡ odd 54 false h k 1074
 nearest_root_near a h k lo hi kl n =
     let M = a * 2 ^ 52 in
     let w = M * (2 ^ k * 2 ^ k) in
@@ -202,7 +220,8 @@ nearest_root_near a h k lo hi kl n =
     less : (j : ℕ) → suc (52 + j) - 53 ≡ j
     less j = omega arith
 
-to_bits_is : (m : ℕ) (e : ℤ) (n k h : ℕ) → m * up e * 2 ^ 1074 / down e ≡ n → size n - 53 ≡ k → n / 2 ^ k ≡ h → to_bits binary64 (fin false m e) ≡ k * 2 ^ 52 + h
+to_bits_is : (m : ℕ) (e : ℤ) (n k h : ℕ) → m * up e * 2 ^ 1074 / down e ≡ n → size n - 53 ≡ k → n / 2 ^ k ≡ h
+    → to_bits binary64 (fin false m e) ≡ k * 2 ^ 52 + h
 unfolding to_bits
 to_bits_is m e n k h p r s =
     ap (λ (x : ℕ). 0 + (size x - 53) * 2 ^ 52 + x / 2 ^ (size x - 53)) p
@@ -223,7 +242,9 @@ to_bits_odd (suc g) k lo hi =
     let e = minus (k + t) 1074 in
     to_bits_is m e (h * 2 ^ k) k h
     (ap (λ (x : ℕ). x / down e) (odd_val 54 false h k 1074) ∙ mul-div_cancel (h * 2 ^ k) (down_pos e))
-    (ap (λ (x : ℕ). x - 53) (size_exact (52 + k) (h * 2 ^ k) (le_trans (le_of_eq (pow-add 2 52 k)) (mul-le-mul_right (2 ^ k) lo)) (lt_of_lt_of_le (shl_lt 53 k hi) (le_of_eq (ap (λ (j : ℕ). 2 ^ j) (plus k))))) ∙ less k)
+    (ap (λ (x : ℕ). x - 53)
+    (size_exact (52 + k) (h * 2 ^ k) (le_trans (le_of_eq (pow-add 2 52 k)) (mul-le-mul_right (2 ^ k) lo))
+    (lt_of_lt_of_le (shl_lt 53 k hi) (le_of_eq (ap (λ (j : ℕ). 2 ^ j) (plus k))))) ∙ less k)
     (mul-div_cancel h (pow_pos k))
   where
     plus : (j : ℕ) → 53 + j ≡ suc (52 + j)
@@ -256,7 +277,8 @@ regroup a o k e p =
     ∙ ap (λ (x : ℕ). a * x) (sym (pow-add 2 (o + 52) (k + k)))
     ∙ ap (λ (x : ℕ). a * 2 ^ x) p
 
-pub scaled_is : (a e h : ℕ) → 2 ^ 52 ≤ a → a < 2 ^ 53 → 1022 ≤ e → e < 3120 → Near (a + e % 2 * a) h → of_bits binary64 ((e - 52) / 2 * 2 ^ 52 + h) ≡ nearest_root binary64 (a * 2 ^ e)
+pub scaled_is : (a e h : ℕ) → 2 ^ 52 ≤ a → a < 2 ^ 53 → 1022 ≤ e → e < 3120 → Near (a + e % 2 * a) h
+    → of_bits binary64 ((e - 52) / 2 * 2 ^ 52 + h) ≡ nearest_root binary64 (a * 2 ^ e)
 scaled_is a e h la ha le he n =
     let o = e % 2 in
     let k = (e - 52) / 2 in

@@ -88,7 +88,9 @@ apart true g s u n h e =
 -- ---- the parts of the test
 
 margin_value : Value margin false (255 * 2 ^ 962)
-margin_value = subst (λ (x : Float). Value x false (255 * 2 ^ 962)) (sym (of_bits-at (255 * 2 ^ 45) 917 (lit≤ tt) (lit≤ tt) (lit≤ tt))) (odd_sign 54 false (255 * 2 ^ 45) 917 1074)
+margin_value =
+    subst (λ (x : Float). Value x false (255 * 2 ^ 962)) (sym (of_bits-at (255 * 2 ^ 45) 917 (lit≤ tt) (lit≤ tt) (lit≤ tt)))
+    (odd_sign 54 false (255 * 2 ^ 45) 917 1074)
 
 abbrev pub Tested : Float → Float → Float → Type 0
 Tested y s g = T (le (mul binary64 (rest y s g) (rest y s g)) (mul binary64 (mul binary64 s s) margin))
@@ -112,10 +114,13 @@ module _ (n t h : ℕ) (y s g : Float) (t-least : 2 ^ 25 ≤ t) (t-most : t < 2 
   Q_is : Value (mul binary64 s s) false (t * t * 2 ^ 1024)
   Q_is =
       subst (λ (k : ℕ). Value (mul binary64 s s) false k) (kept_short binary64 (t * t * 2 ^ 1024) (t * t, 1024, lt_of_lt_of_le tt_most (lit≤ tt), refl))
-      (mul_value binary64 s s false false (S * 2 ^ 1022) (S * 2 ^ 1022) (t * t * 2 ^ 1024) s-is s-is product (small_at (t * t * 2 ^ 1024) 1076 (shifted (t * t) 52 1024 tt_most) (lit≤ tt)))
+      (mul_value binary64 s s false false (S * 2 ^ 1022) (S * 2 ^ 1022) (t * t * 2 ^ 1024) s-is s-is product
+      (small_at (t * t * 2 ^ 1024) 1076 (shifted (t * t) 52 1024 tt_most) (lit≤ tt)))
     where
       product : S * 2 ^ 1022 * (S * 2 ^ 1022) ≡ t * t * 2 ^ 1024 * 2 ^ 1074
-      product = ap (λ (x : ℕ). x * x) (mul_assoc t (2 ^ 27) (2 ^ 1022)) ∙ mul-mul-mul_comm t (2 ^ 27 * 2 ^ 1022) t (2 ^ 27 * 2 ^ 1022) ∙ sym (mul_assoc (t * t) (2 ^ 1024) (2 ^ 1074))
+      product =
+          ap (λ (x : ℕ). x * x) (mul_assoc t (2 ^ 27) (2 ^ 1022)) ∙ mul-mul-mul_comm t (2 ^ 27 * 2 ^ 1022) t (2 ^ 27 * 2 ^ 1022)
+          ∙ sym (mul_assoc (t * t) (2 ^ 1024) (2 ^ 1074))
 
   as_square : t * t * 2 ^ 1024 ≡ S * S * 2 ^ 970
   as_square = sym (mul_assoc (t * t) (2 ^ 54) (2 ^ 970)) ∙ ap (λ (x : ℕ). x * 2 ^ 970) (sym (mul-mul-mul_comm t (2 ^ 27) t (2 ^ 27)))
@@ -123,7 +128,8 @@ module _ (n t h : ℕ) (y s g : Float) (t-least : 2 ^ 25 ≤ t) (t-most : t < 2 
   -- y less that square
   D_is : Sum binary64 (sub binary64 y (mul binary64 s s)) false (n * 2 ^ 1022) true (t * t * 2 ^ 1024)
   D_is = sub_value binary64 y (mul binary64 s s) false false (n * 2 ^ 1022) (t * t * 2 ^ 1024) y-is Q_is
-      (small_at (n * 2 ^ 1022 + t * t * 2 ^ 1024) 1077 (two_at (n * 2 ^ 1022) (t * t * 2 ^ 1024) 1076 (shifted n 54 1022 n-most) (shifted (t * t) 52 1024 tt_most)) (lit≤ tt))
+      (small_at (n * 2 ^ 1022 + t * t * 2 ^ 1024) 1077
+      (two_at (n * 2 ^ 1022) (t * t * 2 ^ 1024) 1076 (shifted n 54 1022 n-most) (shifted (t * t) 52 1024 tt_most)) (lit≤ tt))
 
   -- g less s
   C-sum : Sum binary64 (sub binary64 g s) false (h * 2 ^ 1022) true (S * 2 ^ 1022)
@@ -162,7 +168,11 @@ module _ (n t h : ℕ) (y s g : Float) (t-least : 2 ^ 25 ≤ t) (t-most : t < 2 
   H = closest W (2 ^ 1023)
 
   W_is : Value (add binary64 s g) false (H * 2 ^ 1023)
-  W_is = subst (λ (k : ℕ). Value (add binary64 s g) false k) (ap (λ (k : ℕ). closest W (2 ^ k) * 2 ^ k) (ap (λ (x : ℕ). x - 53) (digits_of (S + h) 53 1022 (omega (arith, S_least, h-least)) (omega (arith, S_most, h-most))))) (go W-sum.sign W-sum.size W-sum.exact W-sum.value)
+  W_is =
+      subst (λ (k : ℕ). Value (add binary64 s g) false k)
+      (ap (λ (k : ℕ). closest W (2 ^ k) * 2 ^ k)
+      (ap (λ (x : ℕ). x - 53) (digits_of (S + h) 53 1022 (omega (arith, S_least, h-least)) (omega (arith, S_most, h-most)))))
+      (go W-sum.sign W-sum.size W-sum.exact W-sum.value)
     where
       spread : (a b c : ℕ) → (a + b) * c ≡ a * c + b * c
       spread a b c = omega arith
@@ -173,7 +183,8 @@ module _ (n t h : ℕ) (y s g : Float) (t-least : 2 ^ 25 ≤ t) (t-most : t < 2 
       all : (a b c : ℕ) → c + (0 + 0) ≡ 0 + (a + b) → c ≡ a + b
       all a b c e = omega (arith, e)
 
-      go : (r : Bool) (k : ℕ) → cond r 0 k + (0 + 0) ≡ cond r k 0 + (S * 2 ^ 1022 + h * 2 ^ 1022) → Value (add binary64 s g) r (to53 k) → Value (add binary64 s g) false (to53 W)
+      go : (r : Bool) (k : ℕ) → cond r 0 k + (0 + 0) ≡ cond r k 0 + (S * 2 ^ 1022 + h * 2 ^ 1022) → Value (add binary64 s g) r (to53 k)
+          → Value (add binary64 s g) false (to53 W)
       go true k e v = absurd (none (S * 2 ^ 1022) (h * 2 ^ 1022) k 0 (mul-pos (lt_of_lt_of_le (pow_pos 52) S_least) (pow_pos 1022)) e)
       go false k e v = subst (λ (i : ℕ). Value (add binary64 s g) false (to53 i)) (all (S * 2 ^ 1022) (h * 2 ^ 1022) k e ∙ sym (spread S h (2 ^ 1022))) v
 
@@ -213,7 +224,8 @@ module _ (n t h : ℕ) (y s g : Float) (t-least : 2 ^ 25 ≤ t) (t-most : t < 2 
   N_is : Value (mul binary64 (sub binary64 g s) (add binary64 s g)) rc (to53 (C * H * 2 ^ 971))
   N_is =
       subst (λ (o : Bool). Value (mul binary64 (sub binary64 g s) (add binary64 s g)) o (to53 (C * H * 2 ^ 971))) (unlike_false rc)
-      (mul_value binary64 (sub binary64 g s) (add binary64 s g) rc false (C * 2 ^ 1022) (H * 2 ^ 1023) (C * H * 2 ^ 971) C_is W_is product (small_at (C * H * 2 ^ 971) 1077 N_most (lit≤ tt)))
+      (mul_value binary64 (sub binary64 g s) (add binary64 s g) rc false (C * 2 ^ 1022) (H * 2 ^ 1023) (C * H * 2 ^ 971) C_is W_is product
+      (small_at (C * H * 2 ^ 971) 1077 N_most (lit≤ tt)))
     where
       product : C * 2 ^ 1022 * (H * 2 ^ 1023) ≡ C * H * 2 ^ 971 * 2 ^ 1074
       product = mul-mul-mul_comm C (2 ^ 1022) H (2 ^ 1023) ∙ sym (mul_assoc (C * H) (2 ^ 971) (2 ^ 1074))
@@ -226,10 +238,16 @@ module _ (n t h : ℕ) (y s g : Float) (t-least : 2 ^ 25 ≤ t) (t-most : t < 2 
   g_p = to53 (C * H * 2 ^ 971)
 
   parts_most : g_d + g_p ≤ 2 ^ 1079
-  parts_most = two_at g_d g_p 1078 (twice_at D_is.size 1077 (le_trans (at_most binary64 (sub binary64 y (mul binary64 s s)) false (n * 2 ^ 1022) true (t * t * 2 ^ 1024) D_is) (two_at (n * 2 ^ 1022) (t * t * 2 ^ 1024) 1076 (shifted n 54 1022 n-most) (shifted (t * t) 52 1024 tt_most)))) (twice_at (C * H * 2 ^ 971) 1077 N_most)
+  parts_most =
+      two_at g_d g_p 1078
+      (twice_at D_is.size 1077
+      (le_trans (at_most binary64 (sub binary64 y (mul binary64 s s)) false (n * 2 ^ 1022) true (t * t * 2 ^ 1024) D_is)
+      (two_at (n * 2 ^ 1022) (t * t * 2 ^ 1024) 1076 (shifted n 54 1022 n-most) (shifted (t * t) 52 1024 tt_most)))) (twice_at (C * H * 2 ^ 971) 1077 N_most)
 
   R_is : Sum binary64 (rest y s g) D_is.sign g_d (not rc) g_p
-  R_is = sub_value binary64 (sub binary64 y (mul binary64 s s)) (mul binary64 (sub binary64 g s) (add binary64 s g)) D_is.sign rc g_d g_p D_is.value N_is (small_at (g_d + g_p) 1079 parts_most (lit≤ tt))
+  R_is =
+      sub_value binary64 (sub binary64 y (mul binary64 s s)) (mul binary64 (sub binary64 g s) (add binary64 s g)) D_is.sign rc g_d g_p D_is.value N_is
+      (small_at (g_d + g_p) 1079 parts_most (lit≤ tt))
 
   abbrev R : ℕ
   R = R_is.size
@@ -257,7 +275,10 @@ module _ (n t h : ℕ) (y s g : Float) (t-least : 2 ^ 25 ≤ t) (t-most : t < 2 
     r_most = subst (λ (x : ℕ). x ≤ 2 ^ 1080) is (twice_at R 1079 R_most)
 
     M_most : M ≤ 2 ^ 1086
-    M_most = le_of_mul-le-mul_right (le_trans (le_of_eq (sym (square_at κ i))) (le_trans (mul-le-mul r_most r_most) (le_of_eq (sym (pow-add 2 1080 1080) ∙ pow-add 2 1086 1074)))) (pow_pos 1074)
+    M_most =
+        le_of_mul-le-mul_right
+        (le_trans (le_of_eq (sym (square_at κ i))) (le_trans (mul-le-mul r_most r_most) (le_of_eq (sym (pow-add 2 1080 1080) ∙ pow-add 2 1086 1074))))
+        (pow_pos 1074)
 
     square_is : Value (mul binary64 (rest y s g) (rest y s g)) false (to53 M)
     square_is =
@@ -266,17 +287,23 @@ module _ (n t h : ℕ) (y s g : Float) (t-least : 2 ^ 25 ≤ t) (t-most : t < 2 
         (mul_value binary64 (rest y s g) (rest y s g) R_is.sign R_is.sign r r M v v (square_at κ i) (small_at M 1086 M_most (lit≤ tt)))
 
     ordered : to53 M ≤ to53 (t * t * 255 * 2 ^ 912)
-    ordered = le_value binary64 (mul binary64 (rest y s g) (rest y s g)) (mul binary64 (mul binary64 s s) margin) (to53 M) (to53 (t * t * 255 * 2 ^ 912)) square_is bound_is
+    ordered =
+        le_value binary64 (mul binary64 (rest y s g) (rest y s g)) (mul binary64 (mul binary64 s s) margin) (to53 M)
+        (to53 (t * t * 255 * 2 ^ 912)) square_is bound_is
         (kept_pos binary64 (t * t * 255 * 2 ^ 912) (mul-pos (mul-pos (mul-pos t_pos t_pos) (lit≤ tt)) (pow_pos 912))) tested
       where
         t_pos : 0 < t
         t_pos = lt_of_lt_of_le (pow_pos 25) t-least
 
     r_below : 1024 * r ≤ 1023 * (S * U)
-    r_below = under_square r (S * U) (M * 2 ^ 1074) (t * t * 2 ^ 1986) (square_at κ i) scaled (go (kept_off binary64 M).under ordered (kept_off binary64 (t * t * 255 * 2 ^ 912)).over)
+    r_below =
+        under_square r (S * U) (M * 2 ^ 1074) (t * t * 2 ^ 1986) (square_at κ i) scaled
+        (go (kept_off binary64 M).under ordered (kept_off binary64 (t * t * 255 * 2 ^ 912)).over)
       where
         scaled : S * U * (S * U) ≡ 256 * (t * t * 2 ^ 1986)
-        scaled = ap (λ (x : ℕ). x * x) (mul_assoc t (2 ^ 27) (2 ^ 970)) ∙ mul-mul-mul_comm t (2 ^ 997) t (2 ^ 997) ∙ sym (mul_assoc (t * t) (2 ^ 1986) 256) ∙ mul_comm (t * t * 2 ^ 1986) 256
+        scaled =
+            ap (λ (x : ℕ). x * x) (mul_assoc t (2 ^ 27) (2 ^ 970)) ∙ mul-mul-mul_comm t (2 ^ 997) t (2 ^ 997) ∙ sym (mul_assoc (t * t) (2 ^ 1986) 256)
+            ∙ mul_comm (t * t * 2 ^ 1986) 256
 
         limit : t * t * 255 * 2 ^ 912 * 2 ^ 1074 ≡ 255 * (t * t * 2 ^ 1986)
         limit = mul_assoc (t * t * 255) (2 ^ 912) (2 ^ 1074) ∙ mul_right_comm (t * t) 255 (2 ^ 1986) ∙ mul_comm (t * t * 2 ^ 1986) 255
@@ -289,14 +316,18 @@ module _ (n t h : ℕ) (y s g : Float) (t-least : 2 ^ 25 ≤ t) (t-most : t < 2 
 
         times : (a b p l : ℕ) → a * p ≤ b * p + b + a → a * l * p ≤ b * l * p + b * l + a * l
         times a b p l q =
-            le_trans (le_of_eq (mul_right_comm a l p)) (le_trans (mul-le-mul_right l q) (le_of_eq (spread (b * p) b a l ∙ ap (λ (x : ℕ). x + b * l + a * l) (mul_right_comm b p l))))
+            le_trans (le_of_eq (mul_right_comm a l p))
+            (le_trans (mul-le-mul_right l q) (le_of_eq (spread (b * p) b a l ∙ ap (λ (x : ℕ). x + b * l + a * l) (mul_right_comm b p l))))
           where
             spread : (x y z w : ℕ) → (x + y + z) * w ≡ x * w + y * w + z * w
             spread x y z w = omega arith
 
-        go : M * 2 ^ 53 ≤ to53 M * 2 ^ 53 + M → to53 M ≤ to53 (t * t * 255 * 2 ^ 912) → to53 (t * t * 255 * 2 ^ 912) * 2 ^ 53 ≤ t * t * 255 * 2 ^ 912 * 2 ^ 53 + t * t * 255 * 2 ^ 912
+        go : M * 2 ^ 53 ≤ to53 M * 2 ^ 53 + M → to53 M ≤ to53 (t * t * 255 * 2 ^ 912)
+            → to53 (t * t * 255 * 2 ^ 912) * 2 ^ 53 ≤ t * t * 255 * 2 ^ 912 * 2 ^ 53 + t * t * 255 * 2 ^ 912
             → M * 2 ^ 1074 * 2 ^ 53 ≤ 255 * (t * t * 2 ^ 1986) * 2 ^ 53 + 255 * (t * t * 2 ^ 1986) + M * 2 ^ 1074
-        go x z w = subst (λ (k : ℕ). M * 2 ^ 1074 * 2 ^ 53 ≤ k * 2 ^ 53 + k + M * 2 ^ 1074) limit (times M (t * t * 255 * 2 ^ 912) (2 ^ 53) (2 ^ 1074) (chain M (t * t * 255 * 2 ^ 912) (to53 M) (to53 (t * t * 255 * 2 ^ 912)) (2 ^ 53) x z w))
+        go x z w =
+            subst (λ (k : ℕ). M * 2 ^ 1074 * 2 ^ 53 ≤ k * 2 ^ 53 + k + M * 2 ^ 1074) limit
+            (times M (t * t * 255 * 2 ^ 912) (2 ^ 53) (2 ^ 1074) (chain M (t * t * 255 * 2 ^ 912) (to53 M) (to53 (t * t * 255 * 2 ^ 912)) (2 ^ 53) x z w))
 
     r_off : Off (2 ^ 53) r R
     r_off = subst (λ (x : ℕ). Off (2 ^ 53) x R) is (kept_off binary64 R)
@@ -354,19 +385,23 @@ module _ (n t h : ℕ) (y s g : Float) (t-least : 2 ^ 25 ≤ t) (t-most : t < 2 
 
   -- (a + c) ^ 2 is a ^ 2 + c * (a + (a + c))
   squared : (a c : ℕ) → (a + c) * (a + c) ≡ a * a + c * (a + (a + c))
-  squared a c = spread a c (a + c) ∙ ap (λ (x : ℕ). x + c * (a + c)) (mul-add a a c) ∙ go (a * a) (a * c) (c * (a + c)) (c * (a + (a + c))) (mul_comm a c) (mul-add c a (a + c))
+  squared a c =
+      spread a c (a + c) ∙ ap (λ (x : ℕ). x + c * (a + c)) (mul-add a a c)
+      ∙ go (a * a) (a * c) (c * (a + c)) (c * (a + (a + c))) (mul_comm a c) (mul-add c a (a + c))
     where
       go : (x z w v : ℕ) → z ≡ c * a → v ≡ c * a + w → x + z + w ≡ x + v
       go x z w v p q = omega (arith, p, q)
 
   square_of : (r : Bool) (c : ℕ) → Apart r S h c → cond r (t * t * 2 ^ 1024 ≡ h * h * U + c * (S + h) * U) (h * h * U ≡ t * t * 2 ^ 1024 + c * (S + h) * U)
   square_of true c e =
-      as_square ∙ ap (λ (x : ℕ). x * x * U) e ∙ ap (λ (x : ℕ). x * U) (squared h c) ∙ spread (h * h) (c * (h + (h + c))) U ∙ ap (λ (x : ℕ). h * h * U + c * x * U) (ap (λ (x : ℕ). h + x) (sym e) ∙ turned h S)
+      as_square ∙ ap (λ (x : ℕ). x * x * U) e ∙ ap (λ (x : ℕ). x * U) (squared h c) ∙ spread (h * h) (c * (h + (h + c))) U
+      ∙ ap (λ (x : ℕ). h * h * U + c * x * U) (ap (λ (x : ℕ). h + x) (sym e) ∙ turned h S)
     where
       turned : (a b : ℕ) → a + b ≡ b + a
       turned a b = omega arith
   square_of false c e =
-      ap (λ (x : ℕ). x * x * U) e ∙ ap (λ (x : ℕ). x * U) (squared S c) ∙ spread (S * S) (c * (S + (S + c))) U ∙ ap (λ (x : ℕ). x + c * (S + (S + c)) * U) (sym as_square) ∙ ap (λ (x : ℕ). t * t * 2 ^ 1024 + c * (S + x) * U) (sym e)
+      ap (λ (x : ℕ). x * x * U) e ∙ ap (λ (x : ℕ). x * U) (squared S c) ∙ spread (S * S) (c * (S + (S + c))) U
+      ∙ ap (λ (x : ℕ). x + c * (S + (S + c)) * U) (sym as_square) ∙ ap (λ (x : ℕ). t * t * 2 ^ 1024 + c * (S + x) * U) (sym e)
 
   times_of : (r : Bool) (c : ℕ) → Apart r S h c → cond r (S * U ≡ h * U + c * U) (h * U ≡ S * U + c * U)
   times_of true c e = ap (λ (x : ℕ). x * U) e ∙ spread h c U
@@ -381,8 +416,10 @@ module _ (n t h : ℕ) (y s g : Float) (t-least : 2 ^ 25 ≤ t) (t-most : t < 2 
 
   pub settled : h < S + 2 ^ 38 → S < h + 2 ^ 38 → Tested y s g → Near n h
   settled over under tested =
-      let b = near_sides U (n * 2 ^ 1022) (t * t * 2 ^ 1024) D_is.size g_d (C * H * 2 ^ 971) g_p R (C * U) (C * (S + h) * U) (h * U) (S * U) (h * h * U) D_is.sign rc R_is.sign
-      (kept_off binary64 D_is.size) (kept_off binary64 (C * H * 2 ^ 971)) N_near wide (mul-le-mul_right U (C_most over under)) SU_least SU_most (R-below tested) (pow_pos 970)
+      let b = near_sides U (n * 2 ^ 1022) (t * t * 2 ^ 1024) D_is.size g_d (C * H * 2 ^ 971) g_p R (C * U) (C * (S + h) * U) (h * U) (S * U)
+      (h * h * U) D_is.sign rc R_is.sign
+      (kept_off binary64 D_is.size) (kept_off binary64 (C * H * 2 ^ 971)) N_near wide (mul-le-mul_right U (C_most over under)) SU_least SU_most
+      (R-below tested) (pow_pos 970)
       D_is.exact (times_of rc C C_apart.1.1) (square_of rc C C_apart.1.1) R_is.exact in
       record {
         above = lt_of_mul-lt-mul_right U (lt_of_lt_of_le b.0 (le_of_eq unit));

@@ -1,6 +1,8 @@
 -- Squares of whole numbers, and one turn of the root by digits. Assumes nothing.
-use Rattle.std.proofs.Common.{◌≡◌, ℕ, zero, suc, ◌+◌, ◌-◌, ◌*◌, ◌/◌, ◌%◌, ◌^◌, ◌<◌, ◌≤◌, Bool, true, false, cond, not, T, sym, refl, ap, ◌∙◌, subst, lt_of_lt_of_le, lt_of_le_of_lt, add-zero, le_of_lt, mul_assoc, mul_comm, add-mul, mul-le-mul, mul-le-mul_left, mul-lt-mul_of_pos_right, pow-suc, mul-add, mul_right_comm, mul-div_cancel, add-one, arith, pow_pos, pow_mono}
+use Rattle.std.proofs.Common.{◌≡◌, ℕ, zero, suc, ◌+◌, ◌-◌, ◌*◌, ◌/◌, ◌%◌, ◌^◌, ◌<◌, ◌≤◌, Bool, true, false, sym, refl, ap, ◌∙◌, subst, lt_of_lt_of_le, lt_of_le_of_lt, le_of_lt, mul_assoc, mul_comm, add-mul, mul-le-mul, mul-le-mul_left, mul-lt-mul_of_pos_right, pow-suc, mul-add, mul_right_comm, mul-div_cancel, add-one, arith, pow_pos, pow_mono, ltb, leb, ltb-true, ltb-false}
 use native.Mathlib.Nat.{mul-mul-mul_comm}
+use Rattle.std.specs.Int.{from_bool}
+use Rattle.std.proofs.lemmas.Bool.{leb-true, leb-false}
 use lib.Arith.{digits_div}
 use Rattle.binary64.specs.Significand.{Near}
 
@@ -75,9 +77,6 @@ finish a s n h e =
 
 -- ---- the check of a guess h, in two parts of 30 and 23 digits
 
-pub small_product : (x y m n : ℕ) → x ≤ m → y ≤ n → x * y ≤ m * n
-small_product x y m n h k = mul-le-mul h k
-
 parts_square : (x y : ℕ) → (x * 2 ^ 23 + y) * (x * 2 ^ 23 + y) ≡ x * x * 2 ^ 46 + x * y * 2 ^ 24 + y * y
 parts_square x y =
     let p = add-mul (x * 2 ^ 23) y (x * 2 ^ 23 + y) in
@@ -97,9 +96,6 @@ apart a h x y left rest e l r =
     let q : h * h ≡ x * x * 2 ^ 46 + x * y * 2 ^ 24 + y * y = ap (λ (z : ℕ). z * z) e ∙ parts_square x y in
     omega arith
 
-kept : (n : ℕ) → n ≡ n - 0
-kept n = omega arith
-
 -- h, or the number next to it that is nearest to the root
 module _ (a h y d : ℕ) (lo : 2 ^ 52 ≤ h) (small : y * y ≤ (2 ^ 23 - 1) * (2 ^ 23 - 1)) (near : d ≤ 0x5f7f_ffff * 2 ^ 24) (e : Apart a h y d) where
   same : d ≤ y * y + 190 * 2 ^ 46 + h → y * y + 190 * 2 ^ 46 < d + h → Near a h
@@ -113,16 +109,33 @@ module _ (a h y d : ℕ) (lo : 2 ^ 52 ≤ h) (small : y * y ≤ (2 ^ 23 - 1) * (
       let s : h * h ≡ g * g + g * 2 + 1 = ap (λ (z : ℕ). z * z) k ∙ next_square g in
       record { above = omega arith; under = omega arith }
 
-  pub chosen : (u w : Bool)
-      → (T u → y * y + 190 * 2 ^ 46 + h < d)
-      → (T (not u) → d ≤ y * y + 190 * 2 ^ 46 + h)
-      → (T w → d + h ≤ y * y + 190 * 2 ^ 46)
-      → (T (not w) → y * y + 190 * 2 ^ 46 < d + h)
-      → Near a (h + cond u 1 0 - cond w 1 0)
-  chosen true true p p' q q' = absurd (never (y * y + 190 * 2 ^ 46) (p tt) (q tt))
+  pub chosen : (i j : ℕ) → i ≡ from_bool (ltb (y * y + 190 * 2 ^ 46 + h) d) → j ≡ from_bool (leb (d + h) (y * y + 190 * 2 ^ 46)) → Near a (h + i - j)
+  chosen i j e f = go _ _ refl refl e f
     where
-      never : (n : ℕ) → n + h < d → d + h ≤ n → ⊥
-      never n i j = omega arith
-  chosen true false p p' q q' = subst (λ (z : ℕ). Near a z) (kept (h + 1)) (next (p tt))
-  chosen false true p p' q q' = previous (h + 0 - 1) (omega arith) (q tt)
-  chosen false false p p' q q' = subst (λ (z : ℕ). Near a z) (kept h ∙ ap (λ (n : ℕ). n - 0) (sym (add-zero h))) (same (p' tt) (q' tt))
+      go : (u w : Bool) → ltb (y * y + 190 * 2 ^ 46 + h) d ≡ u → leb (d + h) (y * y + 190 * 2 ^ 46) ≡ w → i ≡ from_bool u → j ≡ from_bool w → Near a (h + i - j)
+      go true true p q e f =
+          let over = ltb-true _ _ p in
+          let under = leb-true _ _ q in
+          absurd (omega arith)
+      go true false p q e f = subst (λ (z : ℕ). Near a z) (omega arith) (next (ltb-true _ _ p))
+      go false true p q e f = previous (h + i - j) (omega arith) (leb-true _ _ q)
+      go false false p q e f = subst (λ (z : ℕ). Near a z) (omega arith) (same (ltb-false _ _ p) (leb-false _ _ q))
+
+-- what is left of a * 64 + 190 without the square of the guess's leading digits, and of that without their product with the others
+pub checked : (a h left rest i j : ℕ) → a < 2 ^ 54 → 2 ^ 52 ≤ h → h < 2 ^ 53
+    → left ≡ (a * 64 + 190 + (2 ^ 64 - h / 2 ^ 23 * (h / 2 ^ 23))) % 2 ^ 64 → left < 2 ^ 31
+    → rest ≡ (left * 2 ^ 22 + (2 ^ 64 - h / 2 ^ 23 * (h % 2 ^ 23))) % 2 ^ 64 → rest < 0x5f80_0000
+    → i ≡ from_bool (ltb (h % 2 ^ 23 * (h % 2 ^ 23) + 190 * 2 ^ 46 + h) (rest * 2 ^ 24))
+    → j ≡ from_bool (leb (rest * 2 ^ 24 + h) (h % 2 ^ 23 * (h % 2 ^ 23) + 190 * 2 ^ 46))
+    → Near a (h + i - j)
+checked a h left rest i j small lo hi l ll r rl u w =
+    let x = h / 2 ^ 23 in
+    let y = h % 2 ^ 23 in
+    let high : x ≤ 2 ^ 30 - 1 = omega arith in
+    let low : y ≤ 2 ^ 23 - 1 = omega arith in
+    let squared : x * x ≤ (2 ^ 30 - 1) * (2 ^ 30 - 1) = mul-le-mul high high in
+    let crossed : x * y ≤ (2 ^ 30 - 1) * (2 ^ 23 - 1) = mul-le-mul high low in
+    let lower : y * y ≤ (2 ^ 23 - 1) * (2 ^ 23 - 1) = mul-le-mul low low in
+    let whole : left + x * x ≡ a * 64 + 190 = omega arith in
+    let part : rest + x * y ≡ left * 2 ^ 22 = omega arith in
+    chosen a h y (rest * 2 ^ 24) lo lower (omega arith) (apart a h x y left rest (omega arith) whole part) i j u w

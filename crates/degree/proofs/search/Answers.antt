@@ -6,8 +6,4 @@ pub returns-then-heads_within_facing : goal.returns-then-heads_within_facing
 returns-then-heads_within_facing c =
     let all = c.all_short.ensures c.if-all_short.true in
     let within = c.heads_within_facing.ensures c.if-heads_within_facing.true in
-    rw (none_broken c.args.facing.now c.args.faces all c.args.heads.now within, none_long c.args.facing.now c.args.faces all c.args.heads.now within) refl
-
-pub returns : goal.returns
-returns c =
-    rw (c.lowest_broken_facing.ensures, c.lowest.ensures) refl
+    rw (none_broken _ _ all _ within, none_long _ _ all _ within) refl

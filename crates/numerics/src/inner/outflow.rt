@@ -3,6 +3,7 @@ ghost use Rattle.std.specs.Prelude.{◌≡◌, ◌<◌, length};
 ghost use Rattle.numerics.specs.Outflow.{Flows, faces_of, scatter_face, outflows};
 
 // The flux of the face f, added to its owner's outflow and taken from its neighbour's.
+#[tactic(auto, unfolding(crate::specs::Outflow::scatter_face))]
 fn add_face(adjacency: &[usize], flux: &[f64], f: usize, out: &mut [f64])
     requires flows { Flows (length out.old) adjacency.now flux.now }
     requires f_in_bounds { f < length flux.now }
@@ -18,14 +19,13 @@ fn add_face(adjacency: &[usize], flux: &[f64], f: usize, out: &mut [f64])
 }
 
 // The faces in their order, from +0.0.
+#[tactic(auto, unfolding(crate::specs::Outflow::scatter, crate::specs::Outflow::outflows))]
 pub fn integrated_divergence(adjacency: &[usize], flux: &[f64], out: &mut [f64])
     requires { Flows (length out.old) adjacency.now flux.now }
     ensures { out.new ≡ outflows (length out.old) adjacency.now flux.now }
 {
-    mesh::clear(out);
-    let mut f = 0;
-    while f < flux.len() {
+    out.fill(0.0);
+    for f in 0..flux.len() {
         add_face(adjacency, flux, f, out);
-        f += 1;
     }
 }

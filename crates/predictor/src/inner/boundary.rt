@@ -1,8 +1,6 @@
 // The coefficients of all faces, those with two cells first.
-ghost use Rattle.std.specs.Prelude.{◌≡◌, ◌+◌, ◌*◌, ◌<◌, length, get_or};
-ghost use Rattle.std.specs.Float.{nan};
+ghost use Rattle.std.specs.Prelude.{◌≡◌, ◌<◌, length, Ok};
 ghost use Rattle.mesh.specs.Pass.{handed_out};
-ghost use Rattle.mesh.specs.declared.Outcome.TheVariants.{Value};
 ghost use Rattle.mesh.specs.Lent.{bounds_lent};
 ghost use Rattle.mesh.specs.Mesh.{bounds};
 ghost use Rattle.mesh.specs.Records.{peer_at};
@@ -13,10 +11,10 @@ ghost use Rattle.passes.specs.Staged.{staged, Passes};
 
 use crate::inner::coefficients::{internal_at, pair_at, span_to};
 use mesh::{Answer, Condition, Outcome};
-use passes::inner::put;
-use passes::{Stage, early, early_number, is_early, is_late, late, settle, with_late};
+use passes::{Stage, early, late, settle};
 
 // The coefficient of the face f, which has one cell and no link.
+#[tactic(auto, unfolding(crate::specs::Boundary::by_condition))]
 fn by_condition(
     adjacency: &[usize],
     geometry: &[f64],
@@ -39,12 +37,13 @@ fn by_condition(
             let away = face.center.sub(owner.center);
             coupling::fixed_coefficient(face.area, away, responses[o])
         }
-        Condition::ZeroGradient => Outcome::Value(0.0),
-        Condition::Absent => Outcome::Value(0.0),
+        Condition::ZeroGradient => Ok(0.0),
+        Condition::Absent => Ok(0.0),
     }
 }
 
 // The coefficient of the face f, which is linked.
+#[tactic(auto, unfolding(crate::specs::Boundary::linked_at))]
 fn linked_at(
     adjacency: &[usize],
     geometry: &[f64],
@@ -71,6 +70,7 @@ fn linked_at(
 }
 
 // The coefficient of the face f, which has one cell.
+#[tactic(auto, unfolding(crate::specs::Boundary::boundary_at))]
 fn boundary_at(
     adjacency: &[usize],
     geometry: &[f64],
@@ -99,6 +99,7 @@ fn boundary_at(
 }
 
 // The coefficient of the face f; a face with two cells refuses before all others.
+#[tactic(auto, unfolding(crate::specs::Boundary::coefficient_at, crate::specs::Coefficients::internal_at, passes::specs::Staged::staged))]
 fn stage_at(
     adjacency: &[usize],
     geometry: &[f64],
@@ -143,29 +144,18 @@ fn fill(
         let n = length out.old in
         Passes (boundary_answer m k w n) (boundary_coefficients m k w n) result out.new }
 {
-    let mut a = Answer::Accepted;
-    let mut f = 0;
-    while f < out.len() {
-        let s = stage_at(
-            adjacency,
-            geometry,
-            places,
-            codes,
-            values,
-            responses,
-            out.len(),
-            f,
-        );
-        if is_early(s) {
-            return Answer::Refused(early_number(s), f);
+    let mut late = Ok(());
+    let faces = out.len();
+    for f in 0..faces {
+        match stage_at(
+            adjacency, geometry, places, codes, values, responses, faces, f,
+        ) {
+            Ok(Ok(v)) => out[f] = v,
+            Ok(Err(reason)) => late = late.and(Err(reason.at(f))),
+            Err(reason) => return Err(reason.at(f)),
         }
-        put(out, f, s);
-        if is_late(s) {
-            a = with_late(a, s, f);
-        }
-        f += 1;
     }
-    a
+    late
 }
 
 pub fn pressure_face_coefficients_with_boundary(
@@ -187,11 +177,12 @@ pub fn pressure_face_coefficients_with_boundary(
         let n = length out.old in
         out.new ≡ handed_out result n (boundary_coefficients m k responses.now n) }
 {
-    let a = fill(adjacency, geometry, places, codes, values, responses, out);
-    settle(out, a)
+    let answer = fill(adjacency, geometry, places, codes, values, responses, out);
+    settle(out, answer)
 }
 
-// The coefficient of the face f; that of a face with two cells stands in `out` already.
+// The coefficient of the face f; that of a face with two cells is `own` already.
+#[tactic(auto, unfolding(crate::specs::Boundary::coefficient_at))]
 fn completed_at(
     adjacency: &[usize],
     geometry: &[f64],
@@ -199,35 +190,29 @@ fn completed_at(
     codes: &[usize],
     values: &[f64],
     responses: &[f64],
-    out: &[f64],
+    faces: usize,
     f: usize,
+    own: f64,
 ) -> Outcome
-    requires coupled { Coupled (grid adjacency.now geometry.now places.now) (length responses.now) (length out.now) }
-    requires bounded { Bounded (bounds codes.now values.now) (length out.now) }
-    requires lent { let m = grid adjacency.now geometry.now places.now in
-        (f < length out.now) × (internal_at m responses.now f ≡ Value (get_or out.now f nan)) }
+    requires coupled { Coupled (grid adjacency.now geometry.now places.now) (length responses.now) faces }
+    requires bounded { Bounded (bounds codes.now values.now) faces }
+    requires f_lt_faces { f < faces }
+    requires own { internal_at (grid adjacency.now geometry.now places.now) responses.now f ≡ Ok own }
     ensures answer { let m = grid_lent adjacency geometry places in
         let k = bounds_lent codes values in
         result ≡ coefficient_at m k responses.now f }
 {
-    let neighbour = chain::inner::second_of(adjacency, f);
-    if neighbour == 0 {
+    if chain::inner::second_of(adjacency, f) == 0 {
         return boundary_at(
-            adjacency,
-            geometry,
-            places,
-            codes,
-            values,
-            responses,
-            out.len(),
-            f,
+            adjacency, geometry, places, codes, values, responses, faces, f,
         );
     }
-    Outcome::Value(out[f])
+    Ok(own)
 }
 
 // Writes the coefficients of the faces with one cell up to the first refusal; those of the faces with
 // two cells stand in `out` already.
+#[tactic(auto, using(crate::proofs::Started::own_coefficient))]
 pub fn complete(
     adjacency: &[usize],
     geometry: &[f64],
@@ -246,15 +231,10 @@ pub fn complete(
         let n = length out.old in
         Passes (boundary_answer m k w n) (boundary_coefficients m k w n) result out.new }
 {
-    let mut f = 0;
-    while f < out.len() {
-        match completed_at(
-            adjacency, geometry, places, codes, values, responses, out, f,
-        ) {
-            Outcome::Value(v) => out[f] = v,
-            Outcome::Bad(k) => return Answer::Refused(k, f),
-        }
-        f += 1;
-    }
-    Answer::Accepted
+    let faces = out.len();
+    passes::fill(out, |f, own| {
+        completed_at(
+            adjacency, geometry, places, codes, values, responses, faces, f, own,
+        )
+    })
 }

@@ -53,6 +53,7 @@ pub fn distances_at(geometry: &[f64], places: &[f64], f: usize, o: usize, n: usi
 }
 
 // The coefficient of the face f.
+#[tactic(auto, unfolding(crate::specs::Coefficients::internal_at, coupling::specs::Face::distances))]
 pub fn internal_at(
     adjacency: &[usize],
     geometry: &[f64],
@@ -68,7 +69,7 @@ pub fn internal_at(
 {
     let face = mesh::inner::face_at(adjacency, geometry, f);
     if face.neighbour == 0 {
-        return Outcome::Value(0.0);
+        return Ok(0.0);
     }
     let n = face.neighbour - 1;
     let other = mesh::inner::cell_at(places, n);
@@ -92,15 +93,10 @@ fn fill(
         let n = length out.old in
         Passes (coefficient_answer m w n) (coefficients m w n) result out.new }
 {
-    let mut f = 0;
-    while f < out.len() {
-        match internal_at(adjacency, geometry, places, responses, out.len(), f) {
-            Outcome::Value(v) => out[f] = v,
-            Outcome::Bad(k) => return Answer::Refused(k, f),
-        }
-        f += 1;
-    }
-    Answer::Accepted
+    let faces = out.len();
+    passes::fill(out, |f, _| {
+        internal_at(adjacency, geometry, places, responses, faces, f)
+    })
 }
 
 pub fn pressure_face_coefficients(
@@ -117,6 +113,6 @@ pub fn pressure_face_coefficients(
         let n = length out.old in
         out.new ≡ handed_out result n (coefficients m responses.now n) }
 {
-    let a = fill(adjacency, geometry, places, responses, out);
-    settle(out, a)
+    let answer = fill(adjacency, geometry, places, responses, out);
+    settle(out, answer)
 }

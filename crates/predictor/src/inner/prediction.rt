@@ -5,15 +5,14 @@ ghost use Rattle.mesh.specs.Records.{neighbour_at};
 ghost use Rattle.numerics.specs.Slices.{slices, slices_before};
 ghost use Rattle.numerics.specs.Gradient.{gradients, Sloped};
 ghost use Rattle.predictor.specs.Coefficients.{internal_at, coefficients};
-ghost use Rattle.coupling.specs.Grid.{grid, grid_lent, Coupled};
+ghost use Rattle.coupling.specs.Grid.{grid, grid_lent};
 ghost use Rattle.predictor.specs.Prediction.{flow, flow_lent, side_at, predicted_at, prediction_answer, predicted_fluxes, Flowing};
 ghost use Rattle.passes.specs.Staged.{staged, stored_at, Passes, Fills};
 
 use crate::inner::coefficients::{distances_at, pair_at, span_to};
 use coupling::Side;
-use mesh::{Answer, Face, Outcome};
-use passes::inner::put;
-use passes::{Stage, early_number, is_early, is_late, late, settle, store, with_late};
+use mesh::Answer;
+use passes::{Stage, settle, store};
 
 // What the cell c brings to a flux.
 fn side_at(
@@ -41,6 +40,7 @@ fn side_at(
 
 // The flux of the face f between two cells; its coefficient, which is stored where there is room,
 // refuses before any flux.
+#[tactic(auto, unfolding(crate::specs::Coefficients::internal_at, crate::specs::Prediction::predicted_at, passes::specs::Staged::staged, passes::specs::Staged::stored_at, mesh::specs::Pass::value_of, coupling::specs::Face::distances))]
 fn between(
     adjacency: &[usize],
     geometry: &[f64],
@@ -69,18 +69,15 @@ fn between(
     let span = span_to(face, places, other.center);
     let d = distances_at(geometry, places, f, face.owner, n);
     let r = pair_at(responses, face.owner, n);
-    match coupling::internal_coefficient(span, d, r) {
-        Outcome::Value(k) => {
-            store(internal, f, k);
-            let a = side_at(velocity, pressure, gradient, responses, face.owner);
-            let b = side_at(velocity, pressure, gradient, responses, n);
-            late(coupling::predicted_flux(span, d, k, a, b))
-        }
-        Outcome::Bad(k) => Stage::Early(k),
-    }
+    let k = coupling::internal_coefficient(span, d, r)?;
+    store(internal, f, k);
+    let a = side_at(velocity, pressure, gradient, responses, face.owner);
+    let b = side_at(velocity, pressure, gradient, responses, n);
+    Ok(coupling::predicted_flux(span, d, k, a, b))
 }
 
 // The flux of the face f; one with one cell keeps its wall flux.
+#[tactic(auto, unfolding(crate::specs::Coefficients::internal_at, crate::specs::Prediction::predicted_at, passes::specs::Staged::staged, passes::specs::Staged::stored_at))]
 fn stage_at(
     adjacency: &[usize],
     geometry: &[f64],
@@ -106,7 +103,7 @@ fn stage_at(
     let neighbour = chain::inner::second_of(adjacency, f);
     if neighbour == 0 {
         store(internal, f, 0.0);
-        return Stage::Kept(walls[f]);
+        return Ok(Ok(walls[f]));
     }
     between(
         adjacency, geometry, places, velocity, pressure, gradient, responses, walls, f, internal,
@@ -138,23 +135,18 @@ fn predict(
         let n = length walls.now in
         Fills (length internal.old) n (coefficients m responses.now n) result internal.new }
 {
-    let mut a = Answer::Accepted;
-    let mut f = 0;
-    while f < walls.len() {
-        let s = stage_at(
+    let mut late = Ok(());
+    for f in 0..walls.len() {
+        match stage_at(
             adjacency, geometry, places, velocity, pressure, gradient, responses, walls, f,
             internal,
-        );
-        if is_early(s) {
-            return Answer::Refused(early_number(s), f);
+        ) {
+            Ok(Ok(v)) => out[f] = v,
+            Ok(Err(reason)) => late = late.and(Err(reason.at(f))),
+            Err(reason) => return Err(reason.at(f)),
         }
-        put(out, f, s);
-        if is_late(s) {
-            a = with_late(a, s, f);
-        }
-        f += 1;
     }
-    a
+    late
 }
 
 // From a gradient that is there.
@@ -184,10 +176,10 @@ pub fn predicted_flux(
         let n = length walls.now in
         Fills (length internal.old) n (coefficients m responses.now n) result internal.new }
 {
-    let a = predict(
+    let answer = predict(
         adjacency, geometry, places, velocity, pressure, gradient, responses, walls, internal, out,
     );
-    settle(out, a)
+    settle(out, answer)
 }
 
 // The gradient of the pressure from a stencil, and the flux that is predicted with it; a refusal
@@ -235,8 +227,8 @@ pub fn rhie_chow_predicted_flux(
     numerics::inner::gradient::least_squares_gradient(
         starts, equations, weights, inverses, records, pressure, gradient,
     );
-    let a = predicted_flux(
+    let answer = predicted_flux(
         adjacency, geometry, places, velocity, pressure, gradient, responses, walls, internal, out,
     );
-    settle(gradient, a)
+    settle(gradient, answer)
 }

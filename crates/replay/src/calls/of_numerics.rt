@@ -1,35 +1,54 @@
-// The calls of entries of `numerics` with one output.
-use crate::calls::Call;
-use crate::lent::{field_at, field_of, stencil_of};
-use crate::words::{numbers, reals};
-use mesh::Answer;
+// The calls of `numerics`.
+use crate::calls::Setting;
+use crate::fault::Fault;
+use crate::words::{Stencil, Words};
+use mesh::Field;
 
-pub(crate) fn gradient(words: &[usize], floats: &[f64], c: Call, out: &mut [f64]) -> Answer {
-    let m = c.mesh;
-    let s = stencil_of(words, c.at);
-    let pressure = field_at(words, s.fields, 0);
-    numerics::least_squares_gradient(
-        m.counts,
-        s.number,
-        s.records,
-        numbers(words, s.starts),
-        numbers(words, s.equations),
-        reals(words, floats, s.weights),
-        reals(words, floats, s.inverses),
-        pressure.number,
-        reals(words, floats, pressure.values),
-        out,
-    )
-}
+impl<'a> Setting<'a> {
+    fn gradient_of_numbers(
+        &self,
+        stencil: &Stencil<'_>,
+        pressure: &Field<'_>,
+        words: Words<'a>,
+    ) -> Result<bool, Fault> {
+        let mut outputs = words.outputs(1)?;
+        let mut gradient = outputs.reals(self.alloc)?;
+        let answer = numerics::least_squares_gradient(
+            self.mesh.counts,
+            stencil.number,
+            stencil.records,
+            stencil.starts,
+            stencil.equations,
+            stencil.weights,
+            stencil.inverses,
+            pressure.number,
+            pressure.values,
+            &mut gradient.values,
+        );
+        Ok(outputs.is_right(answer)? && gradient.is_right())
+    }
 
-pub(crate) fn outflow(words: &[usize], floats: &[f64], c: Call, out: &mut [f64]) -> Answer {
-    let m = c.mesh;
-    let flux = field_of(words, c.at, 0);
-    numerics::integrated_divergence(
-        m.counts,
-        numbers(words, m.adjacency),
-        flux.number,
-        reals(words, floats, flux.values),
-        out,
-    )
+    // The gradient, as numbers and as records.
+    pub(crate) fn gradient(&self, records: usize, mut words: Words<'a>) -> Result<bool, Fault> {
+        let stencil = words.stencil(records)?;
+        let pressure = words.field()?;
+        Ok(
+            self.gradient_of_numbers(&stencil, &pressure, words)?
+                && self.gradient_of_records(&stencil, &pressure, words)?,
+        )
+    }
+
+    pub(crate) fn outflow(&self, mut words: Words<'a>) -> Result<bool, Fault> {
+        let flux = words.field()?;
+        let mut outputs = words.outputs(1)?;
+        let mut outflow = outputs.reals(self.alloc)?;
+        let answer = numerics::integrated_divergence(
+            self.mesh.counts,
+            self.mesh.adjacency,
+            flux.number,
+            flux.values,
+            &mut outflow.values,
+        );
+        Ok(outputs.is_right(answer)? && outflow.is_right())
+    }
 }

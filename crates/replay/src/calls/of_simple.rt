@@ -1,143 +1,153 @@
-// The calls of entries of `simple`.
-use crate::calls::Call;
-use crate::lent::{field_at, field_of, stencil_of};
-use crate::words::{numbers, reals, skip};
-use mesh::Answer;
+// The calls of `simple`.
+use crate::calls::Setting;
+use crate::fault::Fault;
+use crate::words::Words;
 
-pub(crate) fn diagonal(words: &[usize], floats: &[f64], c: Call, out: &mut [f64]) -> Answer {
-    let m = c.mesh;
-    simple::momentum_inverse_diagonal(m.counts, reals(words, floats, skip(words, c.at, 1)), out)
-}
+impl<'a> Setting<'a> {
+    pub(crate) fn diagonal(&self, mut words: Words<'a>) -> Result<bool, Fault> {
+        let diagonal = words.reals()?;
+        let mut outputs = words.outputs(1)?;
+        let mut responses = outputs.reals(self.alloc)?;
+        let answer = simple::momentum_inverse_diagonal(
+            self.mesh.counts,
+            diagonal,
+            &mut responses.values,
+        );
+        Ok(outputs.is_right(answer)? && responses.is_right())
+    }
 
-pub(crate) fn coefficients(words: &[usize], floats: &[f64], c: Call, out: &mut [f64]) -> Answer {
-    let m = c.mesh;
-    let responses = field_of(words, c.at, 0);
-    simple::pressure_face_coefficients(
-        m.counts,
-        numbers(words, m.adjacency),
-        reals(words, floats, m.geometry),
-        reals(words, floats, m.places),
-        responses.number,
-        reals(words, floats, responses.values),
-        out,
-    )
-}
+    pub(crate) fn coefficients(&self, mut words: Words<'a>) -> Result<bool, Fault> {
+        let m = &self.mesh;
+        let responses = words.field()?;
+        let mut outputs = words.outputs(1)?;
+        let mut coefficients = outputs.reals(self.alloc)?;
+        let answer = simple::pressure_face_coefficients(
+            m.counts,
+            m.adjacency,
+            m.geometry,
+            m.places,
+            responses.number,
+            responses.values,
+            &mut coefficients.values,
+        );
+        Ok(outputs.is_right(answer)? && coefficients.is_right())
+    }
 
-pub(crate) fn coefficients_with_boundary(
-    words: &[usize],
-    floats: &[f64],
-    c: Call,
-    out: &mut [f64],
-) -> Answer {
-    let m = c.mesh;
-    let k = c.conditions;
-    let responses = field_of(words, c.at, 0);
-    simple::pressure_face_coefficients_with_boundary(
-        m.counts,
-        numbers(words, m.adjacency),
-        reals(words, floats, m.geometry),
-        reals(words, floats, m.places),
-        k.number,
-        numbers(words, k.codes),
-        reals(words, floats, k.values),
-        responses.number,
-        reals(words, floats, responses.values),
-        out,
-    )
-}
+    pub(crate) fn coefficients_with_boundary(&self, mut words: Words<'a>) -> Result<bool, Fault> {
+        let m = &self.mesh;
+        let k = &self.conditions;
+        let responses = words.field()?;
+        let mut outputs = words.outputs(1)?;
+        let mut coefficients = outputs.reals(self.alloc)?;
+        let answer = simple::pressure_face_coefficients_with_boundary(
+            m.counts,
+            m.adjacency,
+            m.geometry,
+            m.places,
+            k.number,
+            k.codes,
+            k.values,
+            responses.number,
+            responses.values,
+            &mut coefficients.values,
+        );
+        Ok(outputs.is_right(answer)? && coefficients.is_right())
+    }
 
-pub(crate) fn prediction(
-    words: &[usize],
-    floats: &[f64],
-    c: Call,
-    gradient: &mut [f64],
-    predicted: &mut [f64],
-) -> Answer {
-    let m = c.mesh;
-    let s = stencil_of(words, c.at);
-    let velocity = field_at(words, s.fields, 0);
-    let pressure = field_at(words, s.fields, 1);
-    let responses = field_at(words, s.fields, 2);
-    let walls = field_at(words, s.fields, 3);
-    simple::rhie_chow_predicted_flux(
-        m.counts,
-        numbers(words, m.adjacency),
-        reals(words, floats, m.geometry),
-        reals(words, floats, m.places),
-        s.number,
-        s.records,
-        numbers(words, s.starts),
-        numbers(words, s.equations),
-        reals(words, floats, s.weights),
-        reals(words, floats, s.inverses),
-        velocity.number,
-        reals(words, floats, velocity.values),
-        pressure.number,
-        reals(words, floats, pressure.values),
-        responses.number,
-        reals(words, floats, responses.values),
-        walls.number,
-        reals(words, floats, walls.values),
-        gradient,
-        predicted,
-    )
-}
+    pub(crate) fn prediction(&self, records: usize, mut words: Words<'a>) -> Result<bool, Fault> {
+        let m = &self.mesh;
+        let stencil = words.stencil(records)?;
+        let velocity = words.field()?;
+        let pressure = words.field()?;
+        let responses = words.field()?;
+        let walls = words.field()?;
+        let mut outputs = words.outputs(2)?;
+        let mut gradient = outputs.reals(self.alloc)?;
+        let mut predicted = outputs.reals(self.alloc)?;
+        let answer = simple::rhie_chow_predicted_flux(
+            m.counts,
+            m.adjacency,
+            m.geometry,
+            m.places,
+            stencil.number,
+            stencil.records,
+            stencil.starts,
+            stencil.equations,
+            stencil.weights,
+            stencil.inverses,
+            velocity.number,
+            velocity.values,
+            pressure.number,
+            pressure.values,
+            responses.number,
+            responses.values,
+            walls.number,
+            walls.values,
+            &mut gradient.values,
+            &mut predicted.values,
+        );
+        Ok(outputs.is_right(answer)? && gradient.is_right() && predicted.is_right())
+    }
 
-pub(crate) fn flux(words: &[usize], floats: &[f64], c: Call, out: &mut [f64]) -> Answer {
-    let m = c.mesh;
-    let k = c.conditions;
-    let predicted = field_of(words, c.at, 0);
-    let coefficients = field_of(words, c.at, 1);
-    let correction = field_of(words, c.at, 2);
-    simple::correct_face_flux_with_boundary(
-        m.counts,
-        numbers(words, m.adjacency),
-        k.number,
-        numbers(words, k.codes),
-        reals(words, floats, k.values),
-        predicted.number,
-        reals(words, floats, predicted.values),
-        coefficients.number,
-        reals(words, floats, coefficients.values),
-        correction.number,
-        reals(words, floats, correction.values),
-        out,
-    )
-}
+    pub(crate) fn flux(&self, mut words: Words<'a>) -> Result<bool, Fault> {
+        let m = &self.mesh;
+        let k = &self.conditions;
+        let predicted = words.field()?;
+        let coefficients = words.field()?;
+        let correction = words.field()?;
+        let mut outputs = words.outputs(1)?;
+        let mut flux = outputs.reals(self.alloc)?;
+        let answer = simple::correct_face_flux_with_boundary(
+            m.counts,
+            m.adjacency,
+            k.number,
+            k.codes,
+            k.values,
+            predicted.number,
+            predicted.values,
+            coefficients.number,
+            coefficients.values,
+            correction.number,
+            correction.values,
+            &mut flux.values,
+        );
+        Ok(outputs.is_right(answer)? && flux.is_right())
+    }
 
-pub(crate) fn velocity(words: &[usize], floats: &[f64], c: Call, out: &mut [f64]) -> Answer {
-    let m = c.mesh;
-    let velocity = field_of(words, c.at, 0);
-    let responses = field_of(words, c.at, 1);
-    let gradient = field_of(words, c.at, 2);
-    simple::correct_cell_velocity_from_gradient(
-        m.counts,
-        velocity.number,
-        reals(words, floats, velocity.values),
-        responses.number,
-        reals(words, floats, responses.values),
-        gradient.number,
-        reals(words, floats, gradient.values),
-        out,
-    )
-}
+    pub(crate) fn velocity(&self, mut words: Words<'a>) -> Result<bool, Fault> {
+        let velocity = words.field()?;
+        let responses = words.field()?;
+        let gradient = words.field()?;
+        let mut outputs = words.outputs(1)?;
+        let mut corrected = outputs.reals(self.alloc)?;
+        let answer = simple::correct_cell_velocity_from_gradient(
+            self.mesh.counts,
+            velocity.number,
+            velocity.values,
+            responses.number,
+            responses.values,
+            gradient.number,
+            gradient.values,
+            &mut corrected.values,
+        );
+        Ok(outputs.is_right(answer)? && corrected.is_right())
+    }
 
-pub(crate) fn metrics(
-    words: &[usize],
-    floats: &[f64],
-    c: Call,
-    outflow: &mut [f64],
-    metrics: &mut [f64],
-) -> Answer {
-    let m = c.mesh;
-    let flux = field_of(words, c.at, 0);
-    simple::continuity_metrics(
-        m.counts,
-        numbers(words, m.adjacency),
-        reals(words, floats, m.places),
-        flux.number,
-        reals(words, floats, flux.values),
-        outflow,
-        metrics,
-    )
+    pub(crate) fn metrics(&self, mut words: Words<'a>) -> Result<bool, Fault> {
+        let m = &self.mesh;
+        let flux = words.field()?;
+        let mut outputs = words.outputs(2)?;
+        let mut outflow = outputs.reals(self.alloc)?;
+        let mut metrics = outputs.reals(self.alloc)?;
+        let answer = simple::continuity_metrics(
+            m.counts,
+            m.adjacency,
+            m.places,
+            flux.number,
+            flux.values,
+            &mut outflow.values,
+            &mut metrics.values,
+        );
+        Ok(outputs.is_right(answer)? && outflow.is_right() && metrics.is_right())
+    }
 }

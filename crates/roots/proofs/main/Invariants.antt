@@ -1,6 +1,6 @@
--- No more lines are counted than turns are gone.
-use Rattle.std.proofs.Common.{◌+◌, ◌≤◌}
+-- No more lines are counted than were read.
+use Rattle.std.proofs.Common.{◌+◌, ◌<◌}
 use Rattle.roots.proofs.main.Given as goal
 
-abbrev pub invariant-loop : goal.invariant-loop
-invariant-loop l = l.tally.agreed + l.tally.differ ≤ l.counter
+abbrev pub invariant-loop-line : goal.invariant-loop-line
+invariant-loop-line l = l.tally.agreed + l.tally.differ < l.line-counter

@@ -1,45 +1,36 @@
-use mathlib.Core.Path.{sym, ap}
-use mathlib.Core.List.{[], ◌∷◌, ◌++◌}
-use Prim.Native.Nat.{◌+◌}
+use mathlib.Core.Path.{◌≡◌, refl, sym, ap, ◌∙◌}
+use mathlib.Core.List.{List, [], ◌∷◌, ◌++◌}
+use Prim.Native.Nat.{ℕ, ◌+◌}
 use native.Mathlib.Omega.{arith}
 use lib.ListN.{length}
-use Rattle.sentence.specs.Sentence.{decimal}
-use Rattle.sentence.proofs.Place.{same_size, in_place, needed, fits_in, no_room}
-use Rattle.sentence.proofs.Table.{short, told}
+use Rattle.refusal.specs.declared.Reason.{Reason}
+use Rattle.refusal.specs.Numbers.{number_of}
+use Rattle.sentence.specs.Sentence.{decimal, opening, sentence, written, SentenceCall}
+use Rattle.sentence.proofs.Place.{in_place, needed, fits_in, no_room}
+use Rattle.sentence.proofs.Table.{known, opens}
 use Rattle.sentence.proofs.tell.Goals as goal
 
-pub overflow_add-end : goal.overflow_add-end
-overflow_add-end c =
-    let b = short c.args.number c.args.phrase.now c.requires.0 c.requires.1 in
-    omega arith
-
-pub overflow_add-needed : goal.overflow_add-needed
-overflow_add-needed c =
-    let b = short c.args.number c.args.phrase.now c.requires.0 c.requires.1 in
-    omega arith
-
-pub shape_of-out : goal.shape_of-out
-shape_of-out c =
-    let text = c.args.phrase.now in
-    let spelled = decimal c.args.index in
-    let n = needed text spelled _ c.width.ensures.0 in
-    let put = in_place c.args.out.now text spelled _ (ap (λ n. length text + n) (sym c.width.ensures.0)) (omega arith) in
-    rw (c.put_decimal.ensures, c.put_phrase.ensures, put) (same_size (text ++ (spelled ++ (46 ∷ []))) c.args.out.now (omega arith))
+told : (reason : Reason) (i : ℕ) (phrase digits old new : List ℕ) → phrase ≡ opening (number_of reason) → digits ≡ decimal i
+    → new ≡ written (phrase ++ (digits ++ (46 ∷ []))) old → SentenceCall (number_of reason) i old (length phrase + length digits + 1) new
+told reason i phrase digits old new p d w =
+    let text : phrase ++ (digits ++ (46 ∷ [])) ≡ sentence (number_of reason) i = rw (p, d) (sym (opens (number_of reason) i (known reason))) in
+    record { needs = needed phrase digits ∙ ap length text; leaves = w ∙ ap (λ t. written t old) text }
 
 pub returns-then-needed-out : goal.returns-then-needed-out
 returns-then-needed-out c =
-    let text = c.args.phrase.now in
-    let spelled = decimal c.args.index in
-    let n = needed text spelled _ c.width.ensures.0 in
-    let put = in_place c.args.out.now text spelled _ (ap (λ n. length text + n) (sym c.width.ensures.0)) (omega arith) in
+    let phrase = c.opening-opening.result.now in
+    let digits = c.decimal-digits.result.now in
+    let n = needed phrase digits in
+    let put = in_place phrase digits c.args.out.now _ refl (omega arith) in
     record {
-      call = told c.args.number c.args.index text _ _ _ c.requires.0 c.requires.1 (omega (arith, n)) (fits_in _ _ _ (omega arith) (rw (c.put_decimal.ensures, c.put_phrase.ensures) put));
+      call = told _ _ _ _ _ _ c.opening-opening.ensures.text c.decimal-digits.ensures.text
+          (fits_in _ _ _ (omega (arith, n)) (rw (c.copy_from_slice.ensures.after, c.copy_from_slice-then-needed-out.ensures.after) put));
     }
 
 pub returns-else-needed-out : goal.returns-else-needed-out
 returns-else-needed-out c =
-    let text = c.args.phrase.now in
-    let n = needed text (decimal c.args.index) _ c.width.ensures.0 in
+    let n = needed c.opening-opening.result.now c.decimal-digits.result.now in
     record {
-      call = told c.args.number c.args.index text _ _ _ c.requires.0 c.requires.1 (omega (arith, n)) (no_room _ _ (omega arith));
+      call = told _ _ _ _ _ _ c.opening-opening.ensures.text c.decimal-digits.ensures.text
+          (no_room _ _ (omega (arith, n)));
     }

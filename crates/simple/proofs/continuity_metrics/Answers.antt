@@ -11,16 +11,16 @@ use Rattle.simple.proofs.continuity_metrics.Goals as goal
 
 pub continuity_metrics-requires : goal.continuity_metrics-requires
 continuity_metrics-requires c =
-    let p = metrics_passed c.args.counts c.args.adjacency.now c.args.places.now (field c.args.number c.args.flux.now) (length c.args.outflow.now) (length c.args.metrics.now) (sym c.check_metrics-a.ensures.checked ∙ c.in-Accepted.is) in
+    let p = metrics_passed c.args.counts c.args.adjacency.now c.args.places.now (field c.args.number c.args.flux.now) (length c.args.outflow.now) (length c.args.metrics.now) (sym c.check_metrics.ensures.checked ∙ c.in_ok-check_metrics.was) in
     record {
       flows = p.flows;
       places_len = (p.places_size, p.few, p.pair);
     }
 
-pub returns-in-Accepted : goal.returns-in-Accepted
+pub returns : goal.returns
 unfolding or_else if_refused
-returns-in-Accepted c =
-    let a = sym c.check_metrics-a.ensures.checked ∙ c.in-Accepted.is in
+returns c =
+    let a = sym c.check_metrics.ensures.checked ∙ c.in_ok-check_metrics.was in
     let o = (metrics_passed c.args.counts c.args.adjacency.now c.args.places.now (field c.args.number c.args.flux.now) (length c.args.outflow.now) (length c.args.metrics.now) a).cells in
     record {
       call = record {
@@ -28,12 +28,4 @@ returns-in-Accepted c =
         flows = rw a (c.continuity_metrics.ensures.sums ∙ ap (λ (n : ℕ). handed_out c.continuity_metrics.result n (outflows n c.args.adjacency.now c.args.flux.now)) o);
         numbers = rw a (c.continuity_metrics.ensures.numbers ∙ ap (λ (n : ℕ). metrics_numbers (metrics_of c.args.places.now (outflows n c.args.adjacency.now c.args.flux.now))) o);
       };
-    }
-
-pub returns-in-Refused : goal.returns-in-Refused
-unfolding or_else if_refused
-returns-in-Refused c =
-    let a = sym c.check_metrics-a.ensures.checked ∙ c.in-Refused.is in
-    record {
-      call = record { answer = rw a; flows = rw a; numbers = rw a };
     }

@@ -9,21 +9,13 @@ use Rattle.simple.proofs.correct_cell_velocity_from_gradient.Goals as goal
 pub correct_cell_velocity_from_gradient-requires : goal.correct_cell_velocity_from_gradient-requires
 correct_cell_velocity_from_gradient-requires c =
     record {
-      lent = velocity_passed c.args.counts (field c.args.velocity c.args.velocities.now) (field c.args.response c.args.responses.now) (field c.args.gradient c.args.gradients.now) (length c.args.out.now) (sym c.check_velocity-a.ensures.checked ∙ c.in-Accepted.is);
+      lent = velocity_passed c.args.counts (field c.args.velocity c.args.velocities.now) (field c.args.response c.args.responses.now) (field c.args.gradient c.args.gradients.now) (length c.args.out.now) (sym c.check_velocity.ensures.checked ∙ c.in_ok-check_velocity.was);
     }
 
-pub returns-in-Accepted : goal.returns-in-Accepted
+pub returns : goal.returns
 unfolding or_else if_refused
-returns-in-Accepted c =
-    let a = sym c.check_velocity-a.ensures.checked ∙ c.in-Accepted.is in
+returns c =
+    let a = sym c.check_velocity.ensures.checked ∙ c.in_ok-check_velocity.was in
     record {
       call = record { answer = rw a c.correct_cell_velocity_from_gradient.ensures.value; out = rw a c.correct_cell_velocity_from_gradient.ensures.contents };
-    }
-
-pub returns-in-Refused : goal.returns-in-Refused
-unfolding or_else if_refused
-returns-in-Refused c =
-    let a = sym c.check_velocity-a.ensures.checked ∙ c.in-Refused.is in
-    record {
-      call = record { answer = rw a; out = rw a };
     }

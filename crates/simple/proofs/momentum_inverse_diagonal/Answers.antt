@@ -9,22 +9,14 @@ use Rattle.simple.proofs.momentum_inverse_diagonal.Goals as goal
 
 pub momentum_inverse_diagonal-requires : goal.momentum_inverse_diagonal-requires
 momentum_inverse_diagonal-requires c =
-    let p = diagonal_passed c.args.counts c.args.diagonal.now (length c.args.out.now) (sym c.check_diagonal-a.ensures ∙ c.in-Accepted.is) in
+    let p = diagonal_passed c.args.counts c.args.diagonal.now (length c.args.out.now) (sym c.check_diagonal.ensures ∙ c.in_ok-check_diagonal.was) in
     p.1 ∙ sym p.0
 
-pub returns-in-Accepted : goal.returns-in-Accepted
+pub returns : goal.returns
 unfolding or_else if_refused
-returns-in-Accepted c =
-    let a = sym c.check_diagonal-a.ensures ∙ c.in-Accepted.is in
+returns c =
+    let a = sym c.check_diagonal.ensures ∙ c.in_ok-check_diagonal.was in
     let p = diagonal_passed c.args.counts c.args.diagonal.now (length c.args.out.now) a in
     record {
       call = record { answer = rw a c.momentum_inverse_diagonal.ensures.value; out = rw a (c.momentum_inverse_diagonal.ensures.contents ∙ ap (λ (n : ℕ). handed_out c.momentum_inverse_diagonal.result n (inverses c.args.diagonal.now)) p.0) };
-    }
-
-pub returns-in-Refused : goal.returns-in-Refused
-unfolding or_else if_refused
-returns-in-Refused c =
-    let a = sym c.check_diagonal-a.ensures ∙ c.in-Refused.is in
-    record {
-      call = record { answer = rw a; out = rw a };
     }

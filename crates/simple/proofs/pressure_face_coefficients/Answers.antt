@@ -10,24 +10,16 @@ use Rattle.simple.proofs.pressure_face_coefficients.Goals as goal
 
 pub pressure_face_coefficients-requires : goal.pressure_face_coefficients-requires
 pressure_face_coefficients-requires c =
-    (coefficients_passed c.args.counts (grid c.args.adjacency.now c.args.geometry.now c.args.places.now) (field c.args.response c.args.responses.now) (length c.args.out.now) (sym c.check_coefficients-a.ensures.checked ∙ c.in-Accepted.is)).0
+    (coefficients_passed c.args.counts (grid c.args.adjacency.now c.args.geometry.now c.args.places.now) (field c.args.response c.args.responses.now) (length c.args.out.now) (sym c.check_coefficients.ensures.checked ∙ c.in_ok-check_coefficients.was)).0
 
-pub returns-in-Accepted : goal.returns-in-Accepted
+pub returns : goal.returns
 unfolding or_else if_refused
-returns-in-Accepted c =
-    let a = sym c.check_coefficients-a.ensures.checked ∙ c.in-Accepted.is in
+returns c =
+    let a = sym c.check_coefficients.ensures.checked ∙ c.in_ok-check_coefficients.was in
     let o = (coefficients_passed c.args.counts (grid c.args.adjacency.now c.args.geometry.now c.args.places.now) (field c.args.response c.args.responses.now) (length c.args.out.now) a).1 in
     record {
       call = record {
         answer = rw a (c.pressure_face_coefficients.ensures.answer ∙ ap (λ (n : ℕ). coefficient_answer (grid c.args.adjacency.now c.args.geometry.now c.args.places.now) c.args.responses.now n) o);
         out = rw a (c.pressure_face_coefficients.ensures.contents ∙ ap (λ (n : ℕ). handed_out c.pressure_face_coefficients.result n (coefficients (grid c.args.adjacency.now c.args.geometry.now c.args.places.now) c.args.responses.now n)) o);
       };
-    }
-
-pub returns-in-Refused : goal.returns-in-Refused
-unfolding or_else if_refused
-returns-in-Refused c =
-    let a = sym c.check_coefficients-a.ensures.checked ∙ c.in-Refused.is in
-    record {
-      call = record { answer = rw a; out = rw a };
     }

@@ -11,28 +11,20 @@ use Rattle.simple.proofs.pressure_face_coefficients_with_boundary.Goals as goal
 
 pub pressure_face_coefficients_with_boundary-requires : goal.pressure_face_coefficients_with_boundary-requires
 pressure_face_coefficients_with_boundary-requires c =
-    let p = boundary_passed c.args.counts (grid c.args.adjacency.now c.args.geometry.now c.args.places.now) (conditions c.args.number c.args.codes.now c.args.values.now) (field c.args.response c.args.responses.now) (length c.args.out.now) c.check_boundary-a.result c.check_boundary-a.ensures.checked c.in-Accepted.is in
+    let p = boundary_passed c.args.counts (grid c.args.adjacency.now c.args.geometry.now c.args.places.now) (conditions c.args.number c.args.codes.now c.args.values.now) (field c.args.response c.args.responses.now) (length c.args.out.now) c.check_boundary.result c.check_boundary.ensures.checked c.in_ok-check_boundary.was in
     record {
       coupled = p.0;
       bounded = p.1;
     }
 
-pub returns-in-Accepted : goal.returns-in-Accepted
+pub returns : goal.returns
 unfolding or_else if_refused
-returns-in-Accepted c =
-    let a = sym c.check_boundary-a.ensures.checked ∙ c.in-Accepted.is in
-    let o = (boundary_passed c.args.counts (grid c.args.adjacency.now c.args.geometry.now c.args.places.now) (conditions c.args.number c.args.codes.now c.args.values.now) (field c.args.response c.args.responses.now) (length c.args.out.now) c.check_boundary-a.result c.check_boundary-a.ensures.checked c.in-Accepted.is).2 in
+returns c =
+    let a = sym c.check_boundary.ensures.checked ∙ c.in_ok-check_boundary.was in
+    let o = (boundary_passed c.args.counts (grid c.args.adjacency.now c.args.geometry.now c.args.places.now) (conditions c.args.number c.args.codes.now c.args.values.now) (field c.args.response c.args.responses.now) (length c.args.out.now) c.check_boundary.result c.check_boundary.ensures.checked c.in_ok-check_boundary.was).2 in
     record {
       call = record {
         answer = rw a (c.pressure_face_coefficients_with_boundary.ensures.answer ∙ ap (λ (n : ℕ). boundary_answer (grid c.args.adjacency.now c.args.geometry.now c.args.places.now) (bounds_of (conditions c.args.number c.args.codes.now c.args.values.now)) c.args.responses.now n) o);
         out = rw a (c.pressure_face_coefficients_with_boundary.ensures.contents ∙ ap (λ (n : ℕ). handed_out c.pressure_face_coefficients_with_boundary.result n (boundary_coefficients (grid c.args.adjacency.now c.args.geometry.now c.args.places.now) (bounds_of (conditions c.args.number c.args.codes.now c.args.values.now)) c.args.responses.now n)) o);
       };
-    }
-
-pub returns-in-Refused : goal.returns-in-Refused
-unfolding or_else if_refused
-returns-in-Refused c =
-    let a = sym c.check_boundary-a.ensures.checked ∙ c.in-Refused.is in
-    record {
-      call = record { answer = rw a; out = rw a };
     }

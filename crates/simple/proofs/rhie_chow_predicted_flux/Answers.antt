@@ -1,11 +1,10 @@
 use Rattle.simple.proofs.Checked.{Predictable, prediction_passed}
-use Rattle.mesh.specs.declared.Answer.TheVariants.{Accepted}
 use Rattle.predictor.specs.Prediction.{flow, flow_fields, prediction_checks, prediction_answer, predicted_fluxes}
 use Rattle.coupling.specs.Grid.{grid, field}
 use Rattle.numerics.specs.Gradient.{gradients}
 use Rattle.numerics.specs.Slices.{slices}
 use Rattle.mesh.specs.Pass.{handed_out, if_refused}
-use Rattle.mesh.specs.Answers.{or_else}
+use Rattle.mesh.specs.Answers.{or_else, accepted}
 use lib.ListN.{length}
 use Prim.Native.Nat.{ℕ, ◌*◌}
 use mathlib.Core.Path.{◌≡◌, sym, ◌∙◌, ap}
@@ -13,19 +12,19 @@ use Rattle.simple.proofs.rhie_chow_predicted_flux.Goals as goal
 
 pub rhie_chow_predicted_flux-requires : goal.rhie_chow_predicted_flux-requires
 rhie_chow_predicted_flux-requires c =
-    let passed : prediction_checks c.args.counts (grid c.args.adjacency.now c.args.geometry.now c.args.places.now) c.args.stencil c.args.records (slices c.args.starts.now c.args.equations.now c.args.weights.now c.args.inverses.now) (flow_fields (field c.args.velocity c.args.velocities.now) (field c.args.pressure c.args.pressures.now) (field c.args.response c.args.responses.now) (field c.args.wall c.args.walls.now)) (length c.args.gradient.now) (length c.args.out.now) ≡ Accepted → Predictable c.args.counts (grid c.args.adjacency.now c.args.geometry.now c.args.places.now) c.args.records (slices c.args.starts.now c.args.equations.now c.args.weights.now c.args.inverses.now) (flow_fields (field c.args.velocity c.args.velocities.now) (field c.args.pressure c.args.pressures.now) (field c.args.response c.args.responses.now) (field c.args.wall c.args.walls.now)) (length c.args.gradient.now) (length c.args.out.now) = λ h. prediction_passed c.args.counts (grid c.args.adjacency.now c.args.geometry.now c.args.places.now) c.args.stencil c.args.records (slices c.args.starts.now c.args.equations.now c.args.weights.now c.args.inverses.now) (flow_fields (field c.args.velocity c.args.velocities.now) (field c.args.pressure c.args.pressures.now) (field c.args.response c.args.responses.now) (field c.args.wall c.args.walls.now)) (length c.args.gradient.now) (length c.args.out.now) h in
-    let p = passed (sym c.check_prediction-a.ensures.checked ∙ c.in-Accepted.is) in
+    let passed : prediction_checks c.args.counts (grid c.args.adjacency.now c.args.geometry.now c.args.places.now) c.args.stencil c.args.records (slices c.args.starts.now c.args.equations.now c.args.weights.now c.args.inverses.now) (flow_fields (field c.args.velocity c.args.velocities.now) (field c.args.pressure c.args.pressures.now) (field c.args.response c.args.responses.now) (field c.args.wall c.args.walls.now)) (length c.args.gradient.now) (length c.args.out.now) ≡ accepted → Predictable c.args.counts (grid c.args.adjacency.now c.args.geometry.now c.args.places.now) c.args.records (slices c.args.starts.now c.args.equations.now c.args.weights.now c.args.inverses.now) (flow_fields (field c.args.velocity c.args.velocities.now) (field c.args.pressure c.args.pressures.now) (field c.args.response c.args.responses.now) (field c.args.wall c.args.walls.now)) (length c.args.gradient.now) (length c.args.out.now) = λ h. prediction_passed c.args.counts (grid c.args.adjacency.now c.args.geometry.now c.args.places.now) c.args.stencil c.args.records (slices c.args.starts.now c.args.equations.now c.args.weights.now c.args.inverses.now) (flow_fields (field c.args.velocity c.args.velocities.now) (field c.args.pressure c.args.pressures.now) (field c.args.response c.args.responses.now) (field c.args.wall c.args.walls.now)) (length c.args.gradient.now) (length c.args.out.now) h in
+    let p = passed (sym c.check_prediction.ensures.checked ∙ c.in_ok-check_prediction.was) in
     record {
       sloped = p.sloped;
       lent = record { coupled = p.coupled; velocity = p.velocity; gradient = p.gradient; responses = p.responses };
       out_len = p.out;
     }
 
-pub returns-in-Accepted : goal.returns-in-Accepted
+pub returns : goal.returns
 unfolding or_else if_refused
-returns-in-Accepted c =
-    let passed : prediction_checks c.args.counts (grid c.args.adjacency.now c.args.geometry.now c.args.places.now) c.args.stencil c.args.records (slices c.args.starts.now c.args.equations.now c.args.weights.now c.args.inverses.now) (flow_fields (field c.args.velocity c.args.velocities.now) (field c.args.pressure c.args.pressures.now) (field c.args.response c.args.responses.now) (field c.args.wall c.args.walls.now)) (length c.args.gradient.now) (length c.args.out.now) ≡ Accepted → Predictable c.args.counts (grid c.args.adjacency.now c.args.geometry.now c.args.places.now) c.args.records (slices c.args.starts.now c.args.equations.now c.args.weights.now c.args.inverses.now) (flow_fields (field c.args.velocity c.args.velocities.now) (field c.args.pressure c.args.pressures.now) (field c.args.response c.args.responses.now) (field c.args.wall c.args.walls.now)) (length c.args.gradient.now) (length c.args.out.now) = λ h. prediction_passed c.args.counts (grid c.args.adjacency.now c.args.geometry.now c.args.places.now) c.args.stencil c.args.records (slices c.args.starts.now c.args.equations.now c.args.weights.now c.args.inverses.now) (flow_fields (field c.args.velocity c.args.velocities.now) (field c.args.pressure c.args.pressures.now) (field c.args.response c.args.responses.now) (field c.args.wall c.args.walls.now)) (length c.args.gradient.now) (length c.args.out.now) h in
-    let a = sym c.check_prediction-a.ensures.checked ∙ c.in-Accepted.is in
+returns c =
+    let passed : prediction_checks c.args.counts (grid c.args.adjacency.now c.args.geometry.now c.args.places.now) c.args.stencil c.args.records (slices c.args.starts.now c.args.equations.now c.args.weights.now c.args.inverses.now) (flow_fields (field c.args.velocity c.args.velocities.now) (field c.args.pressure c.args.pressures.now) (field c.args.response c.args.responses.now) (field c.args.wall c.args.walls.now)) (length c.args.gradient.now) (length c.args.out.now) ≡ accepted → Predictable c.args.counts (grid c.args.adjacency.now c.args.geometry.now c.args.places.now) c.args.records (slices c.args.starts.now c.args.equations.now c.args.weights.now c.args.inverses.now) (flow_fields (field c.args.velocity c.args.velocities.now) (field c.args.pressure c.args.pressures.now) (field c.args.response c.args.responses.now) (field c.args.wall c.args.walls.now)) (length c.args.gradient.now) (length c.args.out.now) = λ h. prediction_passed c.args.counts (grid c.args.adjacency.now c.args.geometry.now c.args.places.now) c.args.stencil c.args.records (slices c.args.starts.now c.args.equations.now c.args.weights.now c.args.inverses.now) (flow_fields (field c.args.velocity c.args.velocities.now) (field c.args.pressure c.args.pressures.now) (field c.args.response c.args.responses.now) (field c.args.wall c.args.walls.now)) (length c.args.gradient.now) (length c.args.out.now) h in
+    let a = sym c.check_prediction.ensures.checked ∙ c.in_ok-check_prediction.was in
     let p = passed a in
     record {
       call = record {
@@ -41,12 +40,4 @@ returns-in-Accepted c =
             ∙ ap (λ (n : ℕ). handed_out c.rhie_chow_predicted_flux.result n (predicted_fluxes (grid c.args.adjacency.now c.args.geometry.now c.args.places.now) ((λ (n : ℕ). flow c.args.velocities.now c.args.pressures.now ((λ (n : ℕ). gradients (slices c.args.starts.now c.args.equations.now c.args.weights.now c.args.inverses.now) c.args.records c.args.pressures.now n) n) c.args.responses.now) (length c.args.pressures.now)) c.args.walls.now)) p.faces
             ∙ ap (λ (n : ℕ). handed_out c.rhie_chow_predicted_flux.result c.args.counts.faces (predicted_fluxes (grid c.args.adjacency.now c.args.geometry.now c.args.places.now) ((λ (n : ℕ). flow c.args.velocities.now c.args.pressures.now ((λ (n : ℕ). gradients (slices c.args.starts.now c.args.equations.now c.args.weights.now c.args.inverses.now) c.args.records c.args.pressures.now n) n) c.args.responses.now) n) c.args.walls.now)) p.cells);
       };
-    }
-
-pub returns-in-Refused : goal.returns-in-Refused
-unfolding or_else if_refused
-returns-in-Refused c =
-    let a = sym c.check_prediction-a.ensures.checked ∙ c.in-Refused.is in
-    record {
-      call = record { answer = rw a; gradient = rw a; out = rw a };
     }

@@ -1,25 +1,35 @@
 // The second ring of a cell, in rising order, with no scratch memory: the next cell of it is searched
 // for along the chains of neighbours.
-ghost use Rattle.std.specs.Prelude.{◌≡◌, ◌+◌, ◌*◌, ◌-◌, ◌<◌, ◌≤◌, length};
-ghost use Rattle.chain.specs.Chains.{walk, Chain};
-ghost use Rattle.stencil.specs.Ring.{elem, Web, ways, ways_before, neighbours_of, lower_fresh, lowest_in, lowest_all};
+ghost use Rattle.std.specs.Prelude.{◌≡◌, ◌<◌, ◌≤◌};
+ghost use Rattle.chain.specs.Sound.{Sound, items_from};
+ghost use Rattle.stencil.specs.Ring.{Web, ways, ways_before, neighbours_of, beside, lower_fresh, lowest_in, lowest_all, ring_from, ring_at};
 
+use chain::Records;
 use mesh::Counts;
 
-// Whether the chain from the record `first` on names d.
-fn contains(n: usize, limit: usize, chain: &[usize], first: usize, d: usize) -> bool
-    requires chain_len { length chain.now ≡ 2 * n }
-    requires chain { Chain chain.now n limit first }
-    ensures { result ≡ elem d (walk chain.now n first) }
+// The neighbours of the cell n.
+#[tactic(auto, using(crate::proofs::Walks::sound_in))]
+fn neighbours<'a>(counts: Counts, heads: &[usize], bordering: &'a [usize], n: usize) -> Records<'a>
+    requires web { Web (ways counts heads.now bordering.now) }
+    requires n_lt_cells { n < counts.cells }
+    ensures ended { Sound result.records.now result.next }
+    ensures items { let w = ways_before counts heads bordering in
+        items_from result.records.now result.next ≡ neighbours_of w n }
 {
-    let mut r = first;
-    while r != 0 {
-        if chain::inner::first_of(chain, r - 1) == d {
-            return true;
-        }
-        r = chain::inner::second_of(chain, r - 1);
+    Records {
+        records: bordering,
+        next: chain::inner::second_of(heads, n),
     }
-    false
+}
+
+// Whether d is a neighbour of the cell n.
+fn is_beside(counts: Counts, heads: &[usize], bordering: &[usize], d: usize, n: usize) -> bool
+    requires web { Web (ways counts heads.now bordering.now) }
+    requires n_lt_cells { n < counts.cells }
+    ensures beside { let w = ways_before counts heads bordering in
+        result ≡ beside w d n }
+{
+    neighbours(counts, heads, bordering, n).any(|e| e == d)
 }
 
 // d where it is from `from` on, below `lowest`, and neither c nor a neighbour of c; else `lowest`.
@@ -38,17 +48,11 @@ fn lower_of(
     ensures lowest { let w = ways_before counts heads bordering in
         result ≡ lower_fresh w c from lowest d }
 {
-    if from <= d {
-        if d < lowest {
-            if d != c {
-                let first = chain::inner::second_of(heads, c);
-                if !contains(counts.borderings, counts.cells, bordering, first, d) {
-                    return d;
-                }
-            }
-        }
-    }
-    lowest
+    let stands = (from <= d)
+        && (d < lowest)
+        && (d != c)
+        && !is_beside(counts, heads, bordering, d, c);
+    if stands { d } else { lowest }
 }
 
 // The same over the neighbours of the cell n.
@@ -67,17 +71,13 @@ fn lowest_in(
     ensures lowest { let w = ways_before counts heads bordering in
         result ≡ lowest_in w c from best (neighbours_of w n) }
 {
-    let mut lowest = best;
-    let mut r = chain::inner::second_of(heads, n);
-    while r != 0 {
-        let d = chain::inner::first_of(bordering, r - 1);
-        lowest = lower_of(counts, heads, bordering, c, from, lowest, d);
-        r = chain::inner::second_of(bordering, r - 1);
-    }
-    lowest
+    neighbours(counts, heads, bordering, n).fold(best, |lowest, d| {
+        lower_of(counts, heads, bordering, c, from, lowest, d)
+    })
 }
 
 // The lowest cell from `from` on in the second ring of c; the number of cells where there is none.
+#[tactic(auto, using(crate::proofs::Walks::first_below, crate::proofs::Walks::walk_bounded))]
 pub fn next_in_ring(
     counts: Counts,
     heads: &[usize],
@@ -89,13 +89,13 @@ pub fn next_in_ring(
     requires c_lt_cells { c < counts.cells }
     ensures lowest { let w = ways_before counts heads bordering in
         result ≡ lowest_all w c from counts.cells (neighbours_of w c) }
+    ensures first { let w = ways_before counts heads bordering in
+        from ≤ counts.cells → ring_from w c from ≡ ring_at w c result }
+    ensures onward { result < counts.cells → from ≤ result }
 {
     let mut lowest = counts.cells;
-    let mut r = chain::inner::second_of(heads, c);
-    while r != 0 {
-        let n = chain::inner::first_of(bordering, r - 1);
+    for n in neighbours(counts, heads, bordering, c) {
         lowest = lowest_in(counts, heads, bordering, c, from, lowest, n);
-        r = chain::inner::second_of(bordering, r - 1);
     }
     lowest
 }

@@ -11,30 +11,22 @@ pub returns-then-count-eq0 : goal.returns-then-count-eq0
 returns-then-count-eq0 c = λ _ i h. absurd (omega (arith, h, c.if-count-eq0.true))
 
 pub loop-i-init : goal.loop-i-init
-loop-i-init c = (below_none _, omega (arith, c.if-count-eq0.false))
-
-pub overflow_add-i : goal.overflow_add-i
-overflow_add-i c = omega (arith, c.loop-i.invariant.1)
+loop-i-init c = below_none _
 
 pub leads_on-requires : goal.leads_on-requires
-leads_on-requires c = c.loop-i-test.true
+leads_on-requires c = omega (arith, c.loop-i-test.true)
 
 pub returns-then-not-leads_on : goal.returns-then-not-leads_on
 returns-then-not-leads_on c = λ e. absurd (false≢true e)
 
-pub overflow_add-i-in-loop-i : goal.overflow_add-i-in-loop-i
-overflow_add-i-in-loop-i c = omega (arith, c.loop-i-test.true)
-
-pub loop-i-smaller : goal.loop-i-smaller
-loop-i-smaller c = omega (arith, c.loop-i-test.true)
-
 pub loop-i-preserved : goal.loop-i-preserved
 loop-i-preserved c =
-    (below_more (λ (j : ℕ). leads_on c.args.limit c.args.records.now j ≡ true) c.loop-i.i c.loop-i.invariant.0 (sym c.leads_on.ensures ∙ not-false _ c.if-not-leads_on.false-raw), c.loop-i-test.true)
+    below_more (λ (j : ℕ). leads_on c.args.limit c.args.records.now j ≡ true) c.loop-i.i c.loop-i.invariant (sym c.leads_on.ensures ∙ not-false _ c.if-not-leads_on.false-raw)
 
 pub ends_at-requires : goal.ends_at-requires
-ends_at-requires c = omega (arith, c.loop-i-test.false, c.loop-i.invariant.1)
+ends_at-requires c = omega (arith, c.if-count-eq0.false)
 
 pub returns : goal.returns
 returns c =
-    λ e j h. below_more (λ (j : ℕ). leads_on c.args.limit c.args.records.now j ≡ true) c.loop-i.i c.loop-i.invariant.0 (sym c.ends_at.ensures ∙ e) j (omega (arith, h, c.loop-i-test.false))
+    λ e j h. below_more (λ (j : ℕ). leads_on c.args.limit c.args.records.now j ≡ true) _ (λ k l. c.loop-i.invariant k (omega (arith, l, c.loop-i-test.false)))
+    (sym c.ends_at.ensures ∙ e) j (omega (arith, h, c.if-count-eq0.false))

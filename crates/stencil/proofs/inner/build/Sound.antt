@@ -1,4 +1,6 @@
 -- The records that are handed out stand in a sound chain for each cell, with sources below the number of cells + 2.
+use Rattle.mesh.specs.Answers.{accepted}
+use Rattle.std.specs.Prelude.{Ok, Err}
 use mathlib.Core.Path.{◌≡◌, refl, ◌∙◌, subst}
 use mathlib.Core.List.{List}
 use mathlib.Core.Bool.{true}
@@ -20,9 +22,8 @@ use Rattle.stencil.proofs.inner.ring.Laws.{cases}
 use Rattle.stencil.specs.declared.inner.build.Equation.{Equation}
 use Rattle.matrix.specs.Normal.{zero9}
 use Rattle.stencil.specs.Lent.{Lent, Buildable}
-use Rattle.mesh.specs.declared.Answer.TheVariants.{Accepted}
-use Rattle.stencil.specs.Stencil.{start_of, ended_at, Stencil, Result, refused, built, joined, add_cell, below, answer_of, slices_of, stencil_answer, stencil_slices}
-use Rattle.stencil.specs.Building.{building, Solved, Course, stopped, going, record_numbers}
+use Rattle.stencil.specs.Stencil.{start_of, ended_at, Stencil, joined, add_cell, below, answer_of, slices_of, stencil_answer, stencil_slices}
+use Rattle.stencil.specs.Building.{building, Solved, Course, record_numbers}
 use Rattle.stencil.proofs.inner.build.Whole.{length_ended}
 use Rattle.stencil.proofs.inner.build.Within.{Finishes, cell_within}
 
@@ -158,9 +159,9 @@ module _ (m : Lent) (records : ℕ) where
     room : s.used ≤ records
     chain : (d : ℕ) → d < c → Chain s.slices.equations s.used limit (get_or s.slices.starts d 0)
 
-  abbrev Sounds : ℕ → Result → Type 0
-  Sounds c (refused k i) = 0 ≤ k
-  Sounds c (built s) = Sounding c s
+  abbrev Sounds : ℕ → Course Stencil → Type 0
+  Sounds c (Err e) = Unit {0}
+  Sounds c (Ok s) = Sounding c s
 
   -- what the cell under way adds
   abbrev Opens : Stencil → ℕ → List ℕ → Type 0
@@ -178,8 +179,8 @@ module _ (m : Lent) (records : ℕ) where
 
   joined_sound : (c : ℕ) (s : Stencil) → c < m.mesh.counts.cells → Sounding c s → (o : Course Solved) → Finishes (Opens s) o → Sounds (c + 1) (joined c s o)
   unfolding joined
-  joined_sound c s h g (stopped k i) p = zero-le
-  joined_sound c s h g (going b) p =
+  joined_sound c s h g (Err e) p = tt
+  joined_sound c s h g (Ok b) p =
       let first = start_of s.used b.used in
       let fit : c < length s.slices.starts = omega (arith, g.starts_size) in
       record {
@@ -192,10 +193,10 @@ module _ (m : Lent) (records : ℕ) where
             (rw (get_or-set_same s.slices.starts c first 0 fit) (own_chain records limit s.used s.slices.equations b.equations b.used p));
       }
 
-  add_sound : Buildable m → (c : ℕ) (r : Result) → c < m.mesh.counts.cells → Sounds c r → Sounds (c + 1) (add_cell m records c r)
+  add_sound : Buildable m → (c : ℕ) (r : Course Stencil) → c < m.mesh.counts.cells → Sounds c r → Sounds (c + 1) (add_cell m records c r)
   unfolding add_cell
-  add_sound good c (refused k i) h g = zero-le
-  add_sound good c (built s) h g =
+  add_sound good c (Err e) h g = tt
+  add_sound good c (Ok s) h g =
       let start : Opens s s.used s.slices.equations =
       record {
         size = g.size;
@@ -222,10 +223,10 @@ module _ (m : Lent) (records : ℕ) where
       (add_sound good c (below m records c) (omega arith) (all_sound good c (omega arith)))
 
   -- an accepted stencil: the equations of each cell are a sound chain
-  pub sound : Buildable m → (s : Stencil) → below m records m.mesh.counts.cells ≡ built s → (c : ℕ) → c < m.mesh.counts.cells
+  pub sound : Buildable m → (s : Stencil) → below m records m.mesh.counts.cells ≡ Ok s → (c : ℕ) → c < m.mesh.counts.cells
       → Chain s.slices.equations records (from_cell m.mesh.counts.cells) (get_or s.slices.starts c 0)
   sound good s e c h =
-      let g : Sounds m.mesh.counts.cells (built s) = rw e at (all_sound good m.mesh.counts.cells (le_refl _)) in
+      let g : Sounds m.mesh.counts.cells (Ok s) = rw e at (all_sound good m.mesh.counts.cells (le_refl _)) in
       let k = g.chain c h in
       record {
         left = k.left;
@@ -233,14 +234,14 @@ module _ (m : Lent) (records : ℕ) where
         sound = carried s.slices.equations s.slices.equations s.used records limit k.left _ g.room (λ i a. refl) k.sound;
       }
 
-  from_result : Buildable m → (r : Result) → below m records m.mesh.counts.cells ≡ r → Accepted ≡ answer_of r → (c : ℕ) → c < m.mesh.counts.cells
+  from_result : Buildable m → (r : Course Stencil) → below m records m.mesh.counts.cells ≡ r → accepted ≡ answer_of r → (c : ℕ) → c < m.mesh.counts.cells
       → Chain (slices_of m records r).equations records (from_cell m.mesh.counts.cells) (get_or (slices_of m records r).starts c 0)
   unfolding answer_of slices_of
-  from_result good (refused k i) e a c h = let z : ◌≡◌ {A = ℕ} 0 1 = cc in absurd (omega arith)
-  from_result good (built s) e a c h = sound good s e c h
+  from_result good (Err r) e a c h = absurd (cc)
+  from_result good (Ok s) e a c h = sound good s e c h
 
   -- the same of what is handed out, for a caller that is answered `Accepted`
-  pub accepted_sound : Buildable m → Accepted ≡ stencil_answer m records → (c : ℕ) → c < m.mesh.counts.cells
+  pub accepted_sound : Buildable m → accepted ≡ stencil_answer m records → (c : ℕ) → c < m.mesh.counts.cells
       → Chain (stencil_slices m records).equations records (from_cell m.mesh.counts.cells) (get_or (stencil_slices m records).starts c 0)
   unfolding stencil_answer stencil_slices
   accepted_sound good a c h = from_result good (below m records m.mesh.counts.cells) refl a c h

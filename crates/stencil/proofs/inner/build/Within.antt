@@ -1,38 +1,35 @@
 -- What every append keeps, the stencil of a cell keeps: a property of the records used and their numbers.
+use Rattle.std.specs.Prelude.{Option, None, Some, Ok, Err}
+use Rattle.refusal.specs.Numbers.{refusal}
+use Rattle.refusal.specs.declared.Reason.TheVariants.{SingularStencil}
 use mathlib.Core.Path.{◌≡◌}
 use mathlib.Core.List.{List, [], ◌∷◌}
 use mathlib.Core.Bool.{Bool, true, false, cond}
 use mathlib.Core.Logic.{⊎_elim}
 use Prim.Native.Nat.{ℕ, zero, suc, ◌+◌, ◌-◌, ◌<◌, ◌≤◌, zero-le}
 use native.Mathlib.Omega.{arith}
-use lib.Dec.{ltb, eqb, eqb-suc-zero}
+use lib.Dec.{ltb, eqb}
 use borrow.Author.Tests.{ltb-true, eqb-false}
 use Rattle.binary64.specs.Numbers.{eps, is_far}
 use Rattle.vector.specs.Vector.{norm_squared, difference, norm}
 use Rattle.vector.specs.declared.Vec3.{Vec3}
-use Rattle.matrix.specs.declared.Inversion.{Inversion}
-use Rattle.matrix.specs.declared.Inversion.TheVariants.{Singular, Inverse}
-use Rattle.chain.specs.Chains.{walk, next_of, Chain}
 use Rattle.stencil.specs.Ring.{in_ring, up_from, ring}
 use Rattle.mesh.specs.declared.Condition.{Condition}
 use Rattle.mesh.specs.declared.Condition.TheVariants.{Absent, Fixed, ZeroGradient}
 use Rattle.numerics.specs.Slices.{from_cell}
-use Rattle.chain.proofs.Chains.{onward}
 use Rattle.stencil.proofs.inner.ring.Laws.{cases}
+use Rattle.stencil.proofs.Walks.{Bounded, walk_bounded}
+use Rattle.matrix.specs.declared.Normal.{Normal}
 use Rattle.stencil.specs.declared.inner.build.Equation.{Equation}
 use Rattle.stencil.specs.declared.inner.build.Offer.{Offer}
 use Rattle.stencil.specs.declared.inner.build.Offer.TheVariants.{Closing, Missing, Difference}
 use Rattle.mesh.specs.Records.{owner_at, neighbour_at, peer_at, condition_at, centre, face_normal}
 use Rattle.stencil.specs.Lent.{Lent, Buildable, cell_faces, web_of}
-use Rattle.stencil.specs.Building.{Building, Solved, Course, stopped, going, and_then, over_all, record_numbers, push}
-use Rattle.stencil.specs.Cell.{wall, offer, weighted, offered, add_face, gather, add_ring, extend, add_normal, closing, add_closing, close, settle, inverse_of, finished, finish, widened, widen, gathered, cell_stencil}
+use Rattle.stencil.specs.Building.{Building, Solved, Course, and_then, over_all, record_numbers, push}
+use Rattle.stencil.specs.Cell.{wall, offer, weighted, offered, add_face, gather, add_ring, extend, add_normal, closing}
+use Rattle.stencil.specs.Cell.{add_closing, close, settle, inverse_of, finished, finish, widened, widen, gathered, cell_stencil}
 use Rattle.stencil.proofs.inner.build.Laws.{below-pred, peer_face}
 use lib.Ieee as Ieee
-
--- every item of a list is below the limit
-abbrev Bounded : ℕ → List ℕ → Type 0
-Bounded limit [] = 0 ≤ limit
-Bounded limit (i ∷ is) = (i < limit) × Bounded limit is
 
 up_bounded : (p : ℕ → Bool) (limit n d : ℕ) → n + d ≤ limit → Bounded limit (up_from p n d)
 unfolding up_from
@@ -40,15 +37,6 @@ up_bounded p limit zero d h = zero-le
 up_bounded p limit (suc n) d h =
     ⊎_elim (λ t. rw t (omega arith, up_bounded p limit n (d + 1) (omega arith))) (λ t. rw t (up_bounded p limit n (d + 1) (omega arith)))
     (cases (p d))
-
-walk_bounded : (l : List ℕ) (records limit n r : ℕ) → Chain l records limit r → Bounded limit (walk l n r)
-unfolding walk
-walk_bounded l records limit zero r c = zero-le
-walk_bounded l records limit (suc n) zero c = zero-le
-walk_bounded l records limit (suc n) (suc r) c =
-    let z : suc r ≡ 0 → ⊥ = λ e. omega arith in
-    let o = onward l records limit (suc r) c z in
-    rw (eqb-suc-zero r) (o.below, walk_bounded l records limit n (next_of l (suc r)) o.rest)
 
 -- what an offer's source is below
 abbrev Sourced : ℕ → Offer → Type 0
@@ -92,12 +80,12 @@ offer_sourced m g c f h =
 module _ (P : ℕ → List ℕ → Type 0) where
   -- a course has the property, where it goes on; and that of a finished cell
   abbrev pub Within : Course Building → Type 0
-  Within (stopped k i) = 0 ≤ k
-  Within (going b) = P b.used b.equations
+  Within (Err e) = Unit {0}
+  Within (Ok b) = P b.used b.equations
 
   abbrev pub Finishes : Course Solved → Type 0
-  Finishes (stopped k i) = 0 ≤ k
-  Finishes (going b) = P b.used b.equations
+  Finishes (Err e) = Unit {0}
+  Finishes (Ok b) = P b.used b.equations
 
   abbrev Keeps : (Building → Course Building) → Type 0
   Keeps g = (b : Building) → P b.used b.equations → Within (g b)
@@ -110,14 +98,12 @@ module _ (P : ℕ → List ℕ → Type 0) where
   either_way false a b p q = q
 
   then_within : (o : Course Building) (g : Building → Course Building) → Within o → Keeps g → Within (and_then o g)
-  unfolding and_then
-  then_within (stopped k i) g p q = p
-  then_within (going b) g p q = q b p
+  then_within (Err e) g p q = p
+  then_within (Ok b) g p q = q b p
 
   then_finishes : (o : Course Building) (g : Building → Course Solved) → Within o → KeepsTo g → Finishes (and_then o g)
-  unfolding and_then
-  then_finishes (stopped k i) g p q = p
-  then_finishes (going b) g p q = q b p
+  then_finishes (Err e) g p q = p
+  then_finishes (Ok b) g p q = q b p
 
   one_finishes : (t : Bool) (a b : Course Solved) → Finishes a → Finishes b → Finishes (cond t a b)
   one_finishes true a b p q = p
@@ -125,27 +111,25 @@ module _ (P : ℕ → List ℕ → Type 0) where
 
   all_within : (step : ℕ → Building → Course Building) (limit : ℕ) → ((i : ℕ) → i < limit → Keeps (step i)) → (is : List ℕ) → Bounded limit is
       → Keeps (over_all step is)
-  unfolding over_all
   all_within step limit h [] a b l = l
   all_within step limit h (i ∷ is) a b l = then_within (step i b) (over_all step is) (h i a.0 b l) (all_within step limit h is a.1)
 
-  settle_within : (i : Inversion) (b : Building) (o : Course Solved) → P b.used b.equations → Finishes o → Finishes (settle i b o)
-  unfolding settle
-  settle_within Singular b o l p = p
-  settle_within (Inverse v) b o l p = l
+  settle_within : (i : Option Normal) (b : Building) (o : Course Solved) → P b.used b.equations → Finishes o → Finishes (settle i b o)
+  settle_within None b o l p = p
+  settle_within (Some v) b o l p = l
 
   module _ (n : ℕ) (m : Lent) (g : Buildable m)
       (kept : (l : List ℕ) (u : ℕ) (e : Equation) → P u l → u < n → e.source < from_cell m.mesh.counts.cells → P (u + 1) (record_numbers l u e)) where
     push_within : (e : Equation) → e.source < from_cell m.mesh.counts.cells → Keeps (push n e)
     unfolding push
     push_within e s b l =
-        ⊎_elim (λ t. rw t (kept b.equations b.used e l (ltb-true b.used n t) s)) (λ t. rw t zero-le) (cases (ltb b.used n))
+        ⊎_elim (λ t. rw t (kept b.equations b.used e l (ltb-true b.used n t) s)) (λ t. rw t tt) (cases (ltb b.used n))
 
     offered_within : (f : ℕ) (o : Offer) → Sourced (from_cell m.mesh.counts.cells) o → Keeps (offered n f o)
     unfolding offered weighted
     offered_within f Closing s b l = l
-    offered_within f Missing s b l = zero-le
-    offered_within f (Difference k o v) s b l = either_way (Ieee.le (norm_squared o) eps) _ _ zero-le (push_within _ s _ l)
+    offered_within f Missing s b l = tt
+    offered_within f (Difference k o v) s b l = either_way (Ieee.le (norm_squared o) eps) _ _ tt (push_within _ s _ l)
 
     normal_within : (v : Vec3) → Keeps (add_normal n v)
     unfolding add_normal
@@ -177,7 +161,7 @@ module _ (P : ℕ → List ℕ → Type 0) where
       unfolding finish finished close
       finish_within b l =
           then_finishes _ (finished m c) (all_within (add_closing m n c) m.mesh.counts.faces close_within (cell_faces m.mesh c) faces_bounded b l)
-          (λ d k. settle_within (inverse_of m d) d (stopped 8 c) k zero-le)
+          (λ d k. settle_within (inverse_of m d) d (Err (refusal SingularStencil c)) k tt)
 
       widen_within : KeepsTo (widen m n c)
       unfolding widen widened extend ring

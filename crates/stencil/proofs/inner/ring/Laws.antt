@@ -1,14 +1,15 @@
 -- The search over the chains finds the next cell of the second ring.
 use mathlib.Core.Path.{◌≡◌, refl, sym, ◌∙◌}
 use mathlib.Core.List.{List, [], ◌∷◌}
-use mathlib.Core.Bool.{Bool, true, false, ◌&&◌, cond}
+use mathlib.Core.Bool.{Bool, true, false, ◌&&◌, ◌||◌}
 use mathlib.Core.Logic.{◌⊎◌, inl, inr, ⊎_elim}
 use Prim.Native.Nat.{ℕ, zero, suc, ◌+◌, ◌-◌, ◌<◌, ◌≤◌}
 use native.Mathlib.Omega.{arith}
 use native.Mathlib.Nat.{le_refl}
 use lib.Dec.{leb, ltb, eqb}
 use borrow.Author.Tests.{ltb-true, ltb-false, leb-true, eqb-true, eqb-false, eq-eqb, le-leb}
-use Rattle.stencil.specs.Ring.{elem, any_of, Ways, neighbours_of, fresh, beside, in_ring, up_from, lower_fresh, lowest_in, lowest_all}
+use Rattle.stencil.specs.Ring.{elem, Ways, neighbours_of, fresh, beside, in_ring, up_from, ring, ring_from, ring_at, lower_fresh, lowest_in, lowest_all}
+use Rattle.std.specs.List.{list_any}
 use Rattle.chain.proofs.Truth.{and_true}
 
 pub cases : (b : Bool) → (b ≡ true) ⊎ (b ≡ false)
@@ -21,19 +22,19 @@ record Low (p : ℕ → Bool) (from best : ℕ) (among : ℕ → Bool) (r : ℕ)
   origin : (r ≡ best) ⊎ ((from ≤ r) × (p r ≡ true) × (among r ≡ true))
   least : (d : ℕ) → among d ≡ true → from ≤ d → p d ≡ true → r ≤ d
 
-either : (a b : Bool) → cond a true b ≡ true → (a ≡ true) ⊎ (b ≡ true)
+either : (a b : Bool) → (a || b) ≡ true → (a ≡ true) ⊎ (b ≡ true)
 either true b h = inl refl
 either false b h = inr h
 
-left_in : (a b : Bool) → a ≡ true → cond a true b ≡ true
+left_in : (a b : Bool) → a ≡ true → (a || b) ≡ true
 left_in a b h = rw h
 
-right_in : (a b : Bool) → b ≡ true → cond a true b ≡ true
+right_in : (a b : Bool) → b ≡ true → (a || b) ≡ true
 right_in true b h = refl
 right_in false b h = h
 
 module _ (p : ℕ → Bool) (from : ℕ) where
-  join : (best mid r : ℕ) (A B : ℕ → Bool) → Low p from best A mid → Low p from mid B r → Low p from best (λ d. cond (A d) true (B d)) r
+  join : (best mid r : ℕ) (A B : ℕ → Bool) → Low p from best A mid → Low p from mid B r → Low p from best (λ d. (A d || B d)) r
   join best mid r A B a b = record {
     under = omega (arith, a.under, b.under);
     origin =
@@ -74,32 +75,21 @@ module _ (w : Ways) (c from : ℕ) where
             let same : d ≡ k = eqb-true d k e in
             let is-fresh : fresh w c d ≡ true = rw same q in
             ⊎_elim
-            (λ u. let z : true ≡ false = sym (rw (le-leb from d (omega arith), u, is-fresh)) ∙ t in absurd (no z))
+            (λ u. let z : true ≡ false = sym (rw (le-leb from d (omega arith), u, is-fresh)) ∙ t in absurd (cc))
             (λ u. omega (arith, ltb-false d best u))
             (cases (ltb d best));
       })
       (cases (leb from d && (ltb d best && fresh w c d)))
-    where
-      no : true ≡ false → ⊥
-      no h = let z : ◌≡◌ {A = ℕ} 0 1 = cc in omega arith
 
   in_one : (best : ℕ) (ds : List ℕ) → Low (fresh w c) from best (λ d. elem d ds) (lowest_in w c from best ds)
-  unfolding lowest_in elem
-  in_one best [] = record { under = le_refl best; origin = inl refl; least = λ d e l q. absurd (no e) }
-    where
-      no : false ≡ true → ⊥
-      no h = let z : ◌≡◌ {A = ℕ} 0 1 = cc in omega arith
+  in_one best [] = record { under = le_refl best; origin = inl refl; least = λ d e l q. absurd (cc) }
   in_one best (d ∷ ds) =
       join (fresh w c) from best (lower_fresh w c from best d) _ (eqb d) (λ k. elem k ds) (one best d) (in_one (lower_fresh w c from best d) ds)
 
-  in_all : (best : ℕ) (ns : List ℕ) → Low (fresh w c) from best (λ d. any_of (beside w d) ns) (lowest_all w c from best ns)
-  unfolding lowest_all any_of
-  in_all best [] = record { under = le_refl best; origin = inl refl; least = λ d e l q. absurd (no e) }
-    where
-      no : false ≡ true → ⊥
-      no h = let z : ◌≡◌ {A = ℕ} 0 1 = cc in omega arith
+  in_all : (best : ℕ) (ns : List ℕ) → Low (fresh w c) from best (λ d. list_any (beside w d) ns) (lowest_all w c from best ns)
+  in_all best [] = record { under = le_refl best; origin = inl refl; least = λ d e l q. absurd (cc) }
   in_all best (n ∷ ns) =
-      join (fresh w c) from best (lowest_in w c from best (neighbours_of w n)) _ (λ d. beside w d n) (λ d. any_of (beside w d) ns)
+      join (fresh w c) from best (lowest_in w c from best (neighbours_of w n)) _ (λ d. beside w d n) (λ d. list_any (beside w d) ns)
       (in_one best (neighbours_of w n)) (in_all (lowest_in w c from best (neighbours_of w n)) ns)
 
 -- where p fails throughout, the list is empty; where it first holds at e, it starts there
@@ -139,15 +129,26 @@ module _ (w : Ways) (c from : ℕ) where
       (λ t. t)
       (cases (in_ring w c k))
 
-  pub ring_over : from ≤ w.counts.cells → w.counts.cells ≤ found → up_from (in_ring w c) (w.counts.cells - from) from ≡ []
-  ring_over h e = none (in_ring w c) (w.counts.cells - from) from (λ k a b. earlier k a (omega arith))
+  pub found_onward : (r : ℕ) → r ≡ found → r < w.counts.cells → from ≤ r
+  found_onward r q e = rw q (⊎_elim (λ o. absurd (omega arith)) (λ o. o.0) (in_all w c from w.counts.cells (neighbours_of w c)).origin)
 
-  pub ring_next : found < w.counts.cells
-      → (from ≤ found) × (up_from (in_ring w c) (w.counts.cells - from) from ≡ found ∷ up_from (in_ring w c) (w.counts.cells - (found + 1)) (found + 1))
+  pub found_first : (r : ℕ) → r ≡ found → from ≤ w.counts.cells → ring_from w c from ≡ ring_at w c r
   unfolding in_ring
-  ring_next e =
+  found_first r q h =
+      rw q
+      (⊎_elim
+      (λ t.
+      let e : found < w.counts.cells = ltb-true _ _ t in
       ⊎_elim
       (λ o. absurd (omega arith))
-      (λ o.
-      (o.0, next (in_ring w c) (w.counts.cells - from) (w.counts.cells - (found + 1)) from found o.0 (omega (arith, o.0)) (rw (o.1, o.2)) earlier))
-      (in_all w c from w.counts.cells (neighbours_of w c)).origin
+      (λ o. rw t (next (in_ring w c) (w.counts.cells - from) (w.counts.cells - (found + 1)) from found o.0 (omega (arith, o.0)) (rw (o.1, o.2)) earlier))
+      (in_all w c from w.counts.cells (neighbours_of w c)).origin)
+      (λ t.
+      let e : w.counts.cells ≤ found = ltb-false _ _ t in
+      rw t (none (in_ring w c) (w.counts.cells - from) from (λ k a b. earlier k a (omega arith))))
+      (cases (ltb found w.counts.cells)))
+
+-- the whole ring is its cells from 0 on
+pub all_ring : (w : Ways) (c : ℕ) → ring w c ≡ ring_from w c 0
+unfolding ring
+all_ring w c = let all : w.counts.cells - 0 ≡ w.counts.cells = omega arith in rw all

@@ -1,4 +1,3 @@
-use Prim.Native.Nat.{◌-◌}
 use lib.ListN.{length}
 use Rattle.vector.proofs.Vectors.{Written}
 use Rattle.numerics.specs.Slices.{slices}
@@ -7,6 +6,3 @@ use Rattle.numerics.proofs.inner.gradient.least_squares_gradient.Given as goal
 
 abbrev pub invariant-loop-c : goal.invariant-loop-c
 invariant-loop-c l = Written (gradient_at (slices l.starts l.equations l.weights l.inverses) l.records l.field) (length l.field) l.out l.c
-
-abbrev pub decreases-loop-c : goal.decreases-loop-c
-decreases-loop-c l = length l.field - l.c

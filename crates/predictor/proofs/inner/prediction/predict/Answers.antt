@@ -1,79 +1,51 @@
-use Rattle.passes.specs.Staged.{late_after}
-use Rattle.passes.proofs.Stages.{never_accepted, not_late, start, more, stop, finish, empty, stored, filled}
-use Rattle.predictor.specs.Prediction.{flow, predicted_at}
+use Rattle.std.proofs.Common.{Ok, Err, ◌≡◌, refl, sym, arith}
+use Rattle.std.proofs.lemmas.Grind.{common_steps}
+use lib.ListN.{set}
+use lib.Ieee.{Float}
+use Rattle.refusal.specs.Numbers.{refusal}
+use Rattle.refusal.specs.declared.Reason.{Reason}
+use Rattle.mesh.specs.Answers.{Outcome}
+use Rattle.passes.proofs.Stages.{start, kept, missed, stop, finish, empty, stored}
 use Rattle.coupling.specs.Grid.{grid}
-use Rattle.predictor.specs.Coefficients.{internal_at}
-use lib.ListN.{length}
-use native.Mathlib.Nat.{le_antisymm}
-use native.Mathlib.Omega.{arith}
-use mathlib.Core.Path.{◌≡◌, refl, sym, ◌∙◌}
+use Rattle.predictor.specs.Prediction.{flow, predicted_at}
+use Rattle.predictor.proofs.Started.{and_refused}
 use Rattle.predictor.proofs.inner.prediction.predict.Goals as goal
-use Rattle.predictor.proofs.inner.prediction.predict.Goals.{then-is_late, else-is_late}
+use Rattle.predictor.proofs.inner.prediction.predict.Goals.{in-Ok-Ok, in-Ok-Err}
 
 pub loop-f-init : goal.loop-f-init
-loop-f-init c =
-    (start (internal_at (grid c.args.adjacency.now c.args.geometry.now c.args.places.now) c.args.responses.now) (predicted_at (grid c.args.adjacency.now c.args.geometry.now c.args.places.now) (flow c.args.velocity.now c.args.pressure.now c.args.gradient.now c.args.responses.now) c.args.walls.now) (length c.args.walls.now) c.args.out.now c.requires.out_len, empty (internal_at (grid c.args.adjacency.now c.args.geometry.now c.args.places.now) c.args.responses.now) (length c.args.walls.now) (length c.args.internal.now) c.args.internal.now refl)
+loop-f-init c = record { both = start _ _ _ _ c.requires.out_len; stores = empty _ _ _ _ refl }
 
-pub stage_at-s-requires : goal.stage_at-s-requires
-stage_at-s-requires c =
-    record {
-      lent = c.requires.lent;
-      f_in_bounds = c.loop-f-test.true;
-    }
-
-pub shape_of-internal-then-is_early : goal.shape_of-internal-then-is_early
-shape_of-internal-then-is_early c =
-    c.stage_at-s.auto.internal ∙ c.loop-f.invariant.1.size
-
-pub shape_of-out-then-is_early : goal.shape_of-out-then-is_early
-shape_of-out-then-is_early c =
-    c.loop-f.invariant.0.size ∙ sym c.requires.out_len
-
-pub returns-then-is_early : goal.returns-then-is_early
-returns-then-is_early c =
-    let no = stop (internal_at (grid c.args.adjacency.now c.args.geometry.now c.args.places.now) c.args.responses.now) (predicted_at (grid c.args.adjacency.now c.args.geometry.now c.args.places.now) (flow c.args.velocity.now c.args.pressure.now c.args.gradient.now c.args.responses.now) c.args.walls.now) (length c.args.walls.now) c.loop-f.out c.loop-f.a c.loop-f.f c.stage_at-s.result c.stage_at-s.ensures.answer (sym c.is_early.ensures ∙ c.if-is_early.true) c.loop-f.invariant.0 c.loop-f-test.true in
-    record {
-      passes = (rw c.early_number.ensures (sym no), λ e. cc);
-      coefficients = λ _ ok. absurd (never_accepted _ _ ok);
-    }
-
-pub put-requires : goal.put-requires
-put-requires c =
-    omega (arith, c.loop-f-test.true, c.loop-f.invariant.0.size)
-
-pub overflow_add-f : goal.overflow_add-f
-overflow_add-f c =
-    omega (arith, c.loop-f-test.true)
-
-pub loop-f-smaller : goal.loop-f-smaller
-loop-f-smaller c =
-    omega (arith, c.loop-f-test.true)
-
-pub shape_of-internal : goal.shape_of-internal
-shape_of-internal c = c.loop-f.invariant.1.size
-
-pub shape_of-out : goal.shape_of-out
-shape_of-out c =
-    c.loop-f.invariant.0.size ∙ sym c.requires.out_len
-
-pub returns : goal.returns
-returns c =
-    let w = finish (internal_at (grid c.args.adjacency.now c.args.geometry.now c.args.places.now) c.args.responses.now) (predicted_at (grid c.args.adjacency.now c.args.geometry.now c.args.places.now) (flow c.args.velocity.now c.args.pressure.now c.args.gradient.now c.args.responses.now) c.args.walls.now) (length c.args.walls.now) c.loop-f.out c.loop-f.a c.loop-f.f c.loop-f.invariant.0 c.loop-f-test.false in
-    let e : c.loop-f.f ≡ length c.args.walls.now = le_antisymm c.loop-f.invariant.0.within c.loop-f-test.false in
-    record {
-      passes = (sym w.0, w.1);
-      coefficients = λ room ok. filled (internal_at (grid c.args.adjacency.now c.args.geometry.now c.args.places.now) c.args.responses.now) (length c.args.walls.now) (length c.args.internal.now) c.loop-f.internal c.loop-f.f e c.loop-f.invariant.1 room;
-    }
+pub returns-in-Err-clause-passes : goal.returns-in-Err-clause-passes
+returns-in-Err-clause-passes c = (
+  rw c.at-in-Err.ensures
+      (sym (stop _ _ _ _ _ _ _ (rw c.stage_at.ensures.answer at c.in-Err.is) c.loop-f.invariant.both (omega arith))),
+  λ e. cc,
+)
 
 pub loop-f-preserved : goal.loop-f-preserved
 loop-f-preserved c =
-    let late : c.if-is_late.a ≡ late_after c.loop-f.a c.stage_at-s.result c.loop-f.f =
-    elim c.if-is_late.branch [
-      | then-is_late w ↦ w.a-is ∙ w.with_late-a.ensures
-      | else-is_late w ↦ w.a-is ∙ not_late c.loop-f.a c.stage_at-s.result c.loop-f.f (sym c.is_late.ensures ∙ w.if-is_late.false)
-    ] in
-    let nay = sym c.is_early.ensures ∙ c.if-is_early.false in (
-      rw (late, c.put.ensures)
-          (more (internal_at (grid c.args.adjacency.now c.args.geometry.now c.args.places.now) c.args.responses.now) (predicted_at (grid c.args.adjacency.now c.args.geometry.now c.args.places.now) (flow c.args.velocity.now c.args.pressure.now c.args.gradient.now c.args.responses.now) c.args.walls.now) (length c.args.walls.now) c.loop-f.out c.loop-f.a c.loop-f.f c.stage_at-s.result c.stage_at-s.ensures.answer nay c.loop-f.invariant.0 c.loop-f-test.true),
-      stored (internal_at (grid c.args.adjacency.now c.args.geometry.now c.args.places.now) c.args.responses.now) (length c.args.walls.now) (length c.args.internal.now) (predicted_at (grid c.args.adjacency.now c.args.geometry.now c.args.places.now) (flow c.args.velocity.now c.args.pressure.now c.args.gradient.now c.args.responses.now) c.args.walls.now) c.loop-f.internal _ c.loop-f.f c.stage_at-s.result c.stage_at-s.ensures.answer nay c.stage_at-s.ensures.stored c.loop-f.invariant.1 c.loop-f-test.true,
-    )
+    let m = grid c.args.adjacency.now c.args.geometry.now c.args.places.now in
+    let q = flow c.args.velocity.now c.args.pressure.now c.args.gradient.now c.args.responses.now in
+    let went_on : (o : Outcome) × (c.stage_at.result ≡ Ok o) = grind (arith, common_steps) in
+    record {
+      both =
+          elim c.match-stage_at-2.branch [
+            | in-Ok-Ok w ↦
+                let why : (v : Float) × (c.stage_at.result ≡ Ok (Ok v)) × (c.match-stage_at-2.out ≡ set c.loop-f.out c.loop-f.f v) =
+                grind (arith, common_steps) in
+                rw (w.late-is, why.2) (kept _ _ _ _ _ _ why.0 (rw c.stage_at.ensures.answer at why.1) c.loop-f.invariant.both (omega arith))
+            | in-Ok-Err w ↦
+                let why : (k : Reason) × (c.stage_at.result ≡ Ok (Err k)) × (w.at.result ≡ refusal k c.loop-f.f) =
+                grind (arith, common_steps) in
+                rw (w.out-is, w.late-is, w.and-late.ensures, why.2, and_refused)
+                (missed _ _ _ _ _ _ why.0 (rw c.stage_at.ensures.answer at why.1) c.loop-f.invariant.both (omega arith))
+          ];
+      stores =
+          stored _ _ _ (predicted_at m q c.args.walls.now) _ _ _ went_on.0 (rw c.stage_at.ensures.answer at went_on.1)
+          c.stage_at.ensures.stored c.loop-f.invariant.stores (omega arith);
+    }
+
+pub returns-clause-passes : goal.returns-clause-passes
+returns-clause-passes c =
+    let w = finish _ _ _ _ _ _ c.loop-f.invariant.both (omega arith) in
+    (sym w.0, w.1)

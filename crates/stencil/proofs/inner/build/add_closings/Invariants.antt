@@ -1,14 +1,16 @@
-use lib.ListN.{length}
-use Rattle.chain.specs.Chains.{walk}
+use Rattle.std.proofs.Common.{◌≡◌}
+use Rattle.chain.specs.Sound.{items_from}
 use Rattle.stencil.specs.Lent.{lent}
+use Rattle.stencil.specs.Building.{over_all}
 use Rattle.stencil.specs.Cell.{add_closing, close}
-use Rattle.stencil.proofs.inner.build.Laws.{RecordSized, held, Walking}
+use Rattle.stencil.proofs.Walks.{Bounded}
+use Rattle.stencil.proofs.inner.build.Laws.{held}
 use Rattle.stencil.proofs.inner.build.add_closings.Given as goal
 
-abbrev pub invariant-loop-r : goal.invariant-loop-r
-invariant-loop-r l = let m = lent l.counts l.adjacency l.geometry l.heads l.places l.facing l.bordering l.codes l.values in
-    RecordSized l.records l.equations l.weights
-    × Walking (add_closing m l.records l.c) l.facing l.counts.facings l.counts.faces (close m l.records l.c (held l.initial.p l.initial.equations l.initial.weights)) (held l.p l.equations l.weights) l.r
-
-abbrev pub decreases-loop-r : goal.decreases-loop-r
-decreases-loop-r l = length (walk l.facing l.counts.facings l.r)
+abbrev pub invariant-loop-f : goal.invariant-loop-f
+invariant-loop-f l =
+    let m = lent l.counts l.adjacency l.geometry l.heads l.places l.facing l.bordering l.codes l.values in
+    let left = items_from l.f-iterator.records.now l.f-iterator.next in
+    let whole = close m l.records l.c (held l.initial.p l.initial.equations l.initial.weights) in
+    (goal.iterator-loop-f).can_next l.f-iterator × (goal.iterator-loop-f).is_finite l.f-iterator × Bounded l.counts.faces left
+    × (over_all (add_closing m l.records l.c) left (held l.p l.equations l.weights) ≡ whole)

@@ -1,13 +1,12 @@
-use mathlib.Core.Path.{◌≡◌}
-use lib.ListN.{length}
-use Rattle.chain.specs.Chains.{walk, Chain}
+use Rattle.std.proofs.Common.{◌≡◌}
+use Rattle.chain.specs.Sound.{items_from}
 use Rattle.stencil.specs.Ring.{ways, neighbours_of, lowest_all}
+use Rattle.stencil.proofs.Walks.{Bounded}
 use Rattle.stencil.proofs.inner.ring.next_in_ring.Given as goal
 
-abbrev pub invariant-loop-r : goal.invariant-loop-r
-invariant-loop-r l = let w = ways l.counts l.heads l.bordering in
-    Chain l.bordering l.counts.borderings l.counts.cells l.r
-    × (lowest_all w l.c l.from l.lowest (walk l.bordering l.counts.borderings l.r) ≡ lowest_all w l.c l.from l.counts.cells (neighbours_of w l.c))
-
-abbrev pub decreases-loop-r : goal.decreases-loop-r
-decreases-loop-r l = length (walk l.bordering l.counts.borderings l.r)
+abbrev pub invariant-loop-n : goal.invariant-loop-n
+invariant-loop-n l =
+    let w = ways l.counts l.heads l.bordering in
+    let left = items_from l.n-iterator.records.now l.n-iterator.next in
+    (goal.iterator-loop-n).can_next l.n-iterator × (goal.iterator-loop-n).is_finite l.n-iterator × Bounded l.counts.cells left
+    × (lowest_all w l.c l.from l.lowest left ≡ lowest_all w l.c l.from l.counts.cells (neighbours_of w l.c))

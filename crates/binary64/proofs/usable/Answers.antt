@@ -1,7 +1,0 @@
-use Rattle.binary64.proofs.usable.Goals as goal
-
-pub returns-then-finite : goal.returns-then-finite
-returns-then-finite c = rw (← c.finite.ensures, c.if-finite.true)
-
-pub returns-else-finite : goal.returns-else-finite
-returns-else-finite c = rw (← c.finite.ensures, c.if-finite.false)

@@ -1,0 +1,129 @@
+// What the cases change in the base.
+use crate::case::{Case, base};
+use crate::entry::Entry;
+use std::alloc::AllocError;
+use std::io;
+
+// A slice that a case changes.
+#[derive(Clone, Copy)]
+pub enum Part {
+    Adjacency,
+    Geometry,
+    Heads,
+    Places,
+    Facing,
+    Codes,
+    Values,
+    Starts,
+    Equations,
+    Diagonal,
+    Responses,
+    Pressure,
+    Velocity,
+    Gradient,
+    Walls,
+    Coefficients,
+    Correction,
+    Flux,
+    Outflow,
+    Metrics,
+}
+
+#[derive(Clone, Copy)]
+pub enum Change {
+    Nothing,
+    Dimension(usize),
+
+    // Room for so many equation records.
+    Records(u8),
+
+    // The length of a slice, lent or handed out.
+    Length(Part, usize),
+
+    // The mesh number beside a slice.
+    Number(Part, u64),
+
+    // One number of a slice.
+    Whole(Part, usize, usize),
+    Float(Part, usize, f64),
+}
+
+// Puts a copy of a slice in its place, cut or with zeros past its end.
+fn resize<'a, T: Copy + Default>(
+    slice: &mut &'a [T],
+    n: usize,
+    copy: &'a mut Vec<T>,
+) -> Result<(), AllocError> {
+    copy.extend_from_slice(slice)?;
+    copy.resize(n, T::default())?;
+    *slice = copy;
+    Ok(())
+}
+
+// Puts a copy of a slice in its place, with x for number i.
+fn set<'a, T: Copy>(
+    slice: &mut &'a [T],
+    i: usize,
+    x: T,
+    copy: &'a mut Vec<T>,
+) -> Result<(), AllocError> {
+    copy.extend_from_slice(slice)?;
+    if let Some(number) = copy.get_mut(i) {
+        *number = x;
+    }
+    *slice = copy;
+    Ok(())
+}
+
+impl Change {
+    // Changes a case; a slice is changed in a copy.
+    fn apply<'a>(
+        self,
+        case: &mut Case<'a>,
+        whole: &'a mut Vec<usize>,
+        floats: &'a mut Vec<f64>,
+    ) -> Result<(), AllocError> {
+        match self {
+            Change::Nothing => {}
+            Change::Dimension(n) => case.mesh.counts.dimension = n,
+            Change::Records(n) => {
+                let records = usize::from(n);
+                case.stencil.records = records;
+                resize(&mut case.stencil.equations, 2 * records, whole)?;
+                resize(&mut case.stencil.weights, 4 * records, floats)?;
+            }
+            Change::Length(part, n) => {
+                if let Some(slice) = case.whole_mut(part) {
+                    resize(slice, n, whole)?;
+                } else if let Some(slice) = case.floats_mut(part) {
+                    resize(slice, n, floats)?;
+                }
+            }
+            Change::Number(part, n) => {
+                if let Some(number) = case.number_mut(part) {
+                    *number = n;
+                }
+            }
+            Change::Whole(part, i, n) => {
+                if let Some(slice) = case.whole_mut(part) {
+                    set(slice, i, n, whole)?;
+                }
+            }
+            Change::Float(part, i, x) => {
+                if let Some(slice) = case.floats_mut(part) {
+                    set(slice, i, x, floats)?;
+                }
+            }
+        }
+        Ok(())
+    }
+
+    // Calls an entry with the changed base, and writes the answer and the outputs.
+    pub(crate) fn show<R: Print + AllocGlobal>(self, rt: &R, entry: Entry) -> io::Result<()> {
+        let mut whole = Vec::new(rt.alloc());
+        let mut floats = Vec::new(rt.alloc());
+        let mut case = base();
+        self.apply(&mut case, &mut whole, &mut floats)?;
+        entry.show(rt, &case)
+    }
+}

@@ -6,7 +6,7 @@ use pattern::word::Word;
 use std::alloc::Global;
 
 // The longest output of a call.
-const LONGEST: usize = 1024;
+pub const LONGEST: usize = 1024;
 
 // What outputs hold before a call; as a float it is no NaN.
 const FILL: usize = 0xa5a5_a5a5_a5a5_a5a5;

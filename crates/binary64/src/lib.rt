@@ -50,7 +50,8 @@ pub fn max(a: f64, b: f64) -> f64
     if a.is_nan() || a < b { b } else { a }
 }
 
-// The float nearest to the exact square root.
+// The float nearest to the exact square root. std has one; here it is worked out, and what its midpoints say is
+// proved (docs/DECISIONS.md).
 pub fn sqrt(x: f64) -> f64
     ensures { result ≡ root x }
 {

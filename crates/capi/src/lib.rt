@@ -1,5 +1,6 @@
 // The library's functions under C names, for C and Rust programs to link. A function that can refuse
-// returns the number of the refusal, 0 where it accepts, and leaves the index in `index`.
+// returns the number of the refusal, 0 where it accepts, and leaves the index in `index`. C lends each slice as a
+// pointer and a length, so the slices that travel together are single parameters here, and structs from here on.
 #![tactic(auto)]
 
 ghost use Rattle.std.specs.Prelude.{◌≡◌};
@@ -24,7 +25,11 @@ ghost use Rattle.step.specs.Call.{StepCall};
 ghost use Rattle.step.specs.Lent.{inputs_lent, outputs_before, outputs_after};
 ghost use Rattle.capi.specs.Told.{Told};
 
-use mesh::{Answer, Counts};
+use mesh::{Answer, Conditions, Counts, Faces, Field, Grid, Mesh};
+use numerics::Stencil;
+use simple::{Corrections, FlowFields};
+use stencil::StencilMut;
+use step::{Fields, Outputs};
 
 // Returns the number of an answer, 0 where it accepts, and leaves its index.
 #[tactic(auto, unfolding(mesh::specs::Answers::answer_number, mesh::specs::Answers::answer_index))]
@@ -62,22 +67,22 @@ pub extern "C" fn juvandeer_refusal_sentence(number: u64, index: usize, out: &mu
 
 // `stencil::least_squares_stencil`.
 #[unsafe(no_mangle)]
-pub extern "C" fn juvandeer_least_squares_stencil(
+pub extern "C" fn juvandeer_least_squares_stencil<'a>(
     counts: Counts,
-    adjacency: &[usize],
-    geometry: &[f64],
-    heads: &[usize],
-    places: &[f64],
-    facing: &[usize],
-    bordering: &[usize],
+    adjacency: &'a [usize],
+    geometry: &'a [f64],
+    heads: &'a [usize],
+    places: &'a [f64],
+    facing: &'a [usize],
+    bordering: &'a [usize],
     number: u64,
-    codes: &[usize],
-    values: &[f64],
+    codes: &'a [usize],
+    values: &'a [f64],
     records: usize,
-    starts: &mut [usize],
-    equations: &mut [usize],
-    weights: &mut [f64],
-    inverses: &mut [f64],
+    starts: &'a mut [usize],
+    equations: &'a mut [usize],
+    weights: &'a mut [f64],
+    inverses: &'a mut [f64],
     index: &mut usize,
 ) -> u64
     ensures told { let m = mesh_lent counts adjacency geometry heads places facing bordering in
@@ -86,50 +91,78 @@ pub extern "C" fn juvandeer_least_squares_stencil(
         let new = slices_after starts equations weights inverses in
         Told (λ (a : Answer). StencilCall m k records old a new) result index.new }
 {
+    let mesh = Mesh {
+        counts,
+        adjacency,
+        geometry,
+        heads,
+        places,
+        facing,
+        bordering,
+    };
+    let conditions = Conditions {
+        number,
+        codes,
+        values,
+    };
+    let mut out = StencilMut {
+        records,
+        starts,
+        equations,
+        weights,
+        inverses,
+    };
     told(
-        stencil::least_squares_stencil(
-            counts, adjacency, geometry, heads, places, facing, bordering, number, codes, values,
-            records, starts, equations, weights, inverses,
-        ),
+        stencil::least_squares_stencil(&mesh, &conditions, &mut out),
         index,
     )
 }
 
 // `numerics::least_squares_gradient`.
 #[unsafe(no_mangle)]
-pub extern "C" fn juvandeer_least_squares_gradient(
+pub extern "C" fn juvandeer_least_squares_gradient<'a>(
     counts: Counts,
     stencil: u64,
     records: usize,
-    starts: &[usize],
-    equations: &[usize],
-    weights: &[f64],
-    inverses: &[f64],
+    starts: &'a [usize],
+    equations: &'a [usize],
+    weights: &'a [f64],
+    inverses: &'a [f64],
     number: u64,
-    field: &[f64],
-    out: &mut [f64],
+    field: &'a [f64],
+    out: &'a mut [f64],
     index: &mut usize,
 ) -> u64
     ensures told { let s = slices_before starts equations weights inverses in
         let f = field.now in
         Told (λ (a : Answer). GradientCall counts stencil records s number f out.old a out.new) result index.new }
 {
+    let stencil = Stencil {
+        number: stencil,
+        records,
+        starts,
+        equations,
+        weights,
+        inverses,
+    };
+    let field = Field {
+        number: number,
+        values: field,
+    };
     told(
-        numerics::least_squares_gradient(
-            counts, stencil, records, starts, equations, weights, inverses, number, field, out,
-        ),
+        numerics::least_squares_gradient(counts, &stencil, &field, out),
         index,
     )
 }
 
 // `numerics::integrated_divergence`.
 #[unsafe(no_mangle)]
-pub extern "C" fn juvandeer_integrated_divergence(
+pub extern "C" fn juvandeer_integrated_divergence<'a>(
     counts: Counts,
-    adjacency: &[usize],
+    adjacency: &'a [usize],
     number: u64,
-    flux: &[f64],
-    out: &mut [f64],
+    flux: &'a [f64],
+    out: &'a mut [f64],
     index: &mut usize,
 ) -> u64
     ensures told { let f = adjacency.now in
@@ -138,10 +171,12 @@ pub extern "C" fn juvandeer_integrated_divergence(
         let terms : Answer → Type 0 = λ a. Scattered a counts.cells f v out.new in
         Told (λ (a : Answer). call a × terms a) result index.new }
 {
-    told(
-        numerics::integrated_divergence(counts, adjacency, number, flux, out),
-        index,
-    )
+    let faces = Faces { counts, adjacency };
+    let flux = Field {
+        number: number,
+        values: flux,
+    };
+    told(numerics::integrated_divergence(&faces, &flux, out), index)
 }
 
 // `simple::momentum_inverse_diagonal`.
@@ -162,41 +197,49 @@ pub extern "C" fn juvandeer_momentum_inverse_diagonal(
 
 // `simple::pressure_face_coefficients`.
 #[unsafe(no_mangle)]
-pub extern "C" fn juvandeer_pressure_face_coefficients(
+pub extern "C" fn juvandeer_pressure_face_coefficients<'a>(
     counts: Counts,
-    adjacency: &[usize],
-    geometry: &[f64],
-    places: &[f64],
+    adjacency: &'a [usize],
+    geometry: &'a [f64],
+    places: &'a [f64],
     response: u64,
-    responses: &[f64],
-    out: &mut [f64],
+    responses: &'a [f64],
+    out: &'a mut [f64],
     index: &mut usize,
 ) -> u64
     ensures told { let m = grid_lent adjacency geometry places in
         let w = field_lent response responses in
         Told (λ (a : Answer). CoefficientCall counts m w out.old a out.new) result index.new }
 {
+    let grid = Grid {
+        counts,
+        adjacency,
+        geometry,
+        places,
+    };
+    let responses = Field {
+        number: response,
+        values: responses,
+    };
     told(
-        simple::pressure_face_coefficients(
-            counts, adjacency, geometry, places, response, responses, out,
-        ),
+        simple::pressure_face_coefficients(&grid, &responses, out),
         index,
     )
 }
 
 // `simple::pressure_face_coefficients_with_boundary`.
 #[unsafe(no_mangle)]
-pub extern "C" fn juvandeer_pressure_face_coefficients_with_boundary(
+pub extern "C" fn juvandeer_pressure_face_coefficients_with_boundary<'a>(
     counts: Counts,
-    adjacency: &[usize],
-    geometry: &[f64],
-    places: &[f64],
+    adjacency: &'a [usize],
+    geometry: &'a [f64],
+    places: &'a [f64],
     number: u64,
-    codes: &[usize],
-    values: &[f64],
+    codes: &'a [usize],
+    values: &'a [f64],
     response: u64,
-    responses: &[f64],
-    out: &mut [f64],
+    responses: &'a [f64],
+    out: &'a mut [f64],
     index: &mut usize,
 ) -> u64
     ensures told { let m = grid_lent adjacency geometry places in
@@ -204,37 +247,50 @@ pub extern "C" fn juvandeer_pressure_face_coefficients_with_boundary(
         let w = field_lent response responses in
         Told (λ (a : Answer). BoundaryCall counts m k w out.old a out.new) result index.new }
 {
+    let grid = Grid {
+        counts,
+        adjacency,
+        geometry,
+        places,
+    };
+    let conditions = Conditions {
+        number,
+        codes,
+        values,
+    };
+    let responses = Field {
+        number: response,
+        values: responses,
+    };
     told(
-        simple::pressure_face_coefficients_with_boundary(
-            counts, adjacency, geometry, places, number, codes, values, response, responses, out,
-        ),
+        simple::pressure_face_coefficients_with_boundary(&grid, &conditions, &responses, out),
         index,
     )
 }
 
 // `simple::rhie_chow_predicted_flux`.
 #[unsafe(no_mangle)]
-pub extern "C" fn juvandeer_rhie_chow_predicted_flux(
+pub extern "C" fn juvandeer_rhie_chow_predicted_flux<'a>(
     counts: Counts,
-    adjacency: &[usize],
-    geometry: &[f64],
-    places: &[f64],
+    adjacency: &'a [usize],
+    geometry: &'a [f64],
+    places: &'a [f64],
     stencil: u64,
     records: usize,
-    starts: &[usize],
-    equations: &[usize],
-    weights: &[f64],
-    inverses: &[f64],
+    starts: &'a [usize],
+    equations: &'a [usize],
+    weights: &'a [f64],
+    inverses: &'a [f64],
     velocity: u64,
-    velocities: &[f64],
+    velocities: &'a [f64],
     pressure: u64,
-    pressures: &[f64],
+    pressures: &'a [f64],
     response: u64,
-    responses: &[f64],
+    responses: &'a [f64],
     wall: u64,
-    walls: &[f64],
-    gradient: &mut [f64],
-    out: &mut [f64],
+    walls: &'a [f64],
+    gradient: &'a mut [f64],
+    out: &'a mut [f64],
     index: &mut usize,
 ) -> u64
     ensures told { let m = grid_lent adjacency geometry places in
@@ -244,31 +300,59 @@ pub extern "C" fn juvandeer_rhie_chow_predicted_flux(
         let after = gradient.new in
         Told (λ (a : Answer). PredictionCall counts m stencil records s l before out.old a after out.new) result index.new }
 {
+    let grid = Grid {
+        counts,
+        adjacency,
+        geometry,
+        places,
+    };
+    let stencil = Stencil {
+        number: stencil,
+        records,
+        starts,
+        equations,
+        weights,
+        inverses,
+    };
+    let fields = FlowFields {
+        velocity: Field {
+            number: velocity,
+            values: velocities,
+        },
+        pressure: Field {
+            number: pressure,
+            values: pressures,
+        },
+        responses: Field {
+            number: response,
+            values: responses,
+        },
+        walls: Field {
+            number: wall,
+            values: walls,
+        },
+    };
     told(
-        simple::rhie_chow_predicted_flux(
-            counts, adjacency, geometry, places, stencil, records, starts, equations, weights,
-            inverses, velocity, velocities, pressure, pressures, response, responses, wall, walls,
-            gradient, out,
-        ),
+        simple::rhie_chow_predicted_flux(&grid, &stencil, &fields, gradient, out),
         index,
     )
 }
 
 // `simple::correct_face_flux_with_boundary`.
 #[unsafe(no_mangle)]
-pub extern "C" fn juvandeer_correct_face_flux_with_boundary(
+pub extern "C" fn juvandeer_correct_face_flux_with_boundary<'a>(
     counts: Counts,
-    adjacency: &[usize],
+    adjacency: &'a [usize],
     number: u64,
-    codes: &[usize],
-    values: &[f64],
+    codes: &'a [usize],
+    values: &'a [f64],
     prediction: u64,
-    predicted: &[f64],
+    predicted: &'a [f64],
     coefficient: u64,
-    coefficients: &[f64],
+    coefficients: &'a [f64],
     correction: u64,
-    corrections: &[f64],
-    out: &mut [f64],
+    corrections: &'a [f64],
+    out: &'a mut [f64],
     index: &mut usize,
 ) -> u64
     ensures told { let f = adjacency.now in
@@ -278,39 +362,46 @@ pub extern "C" fn juvandeer_correct_face_flux_with_boundary(
         let promise : Answer → Type 0 = λ a. Promised a f k l out.new in
         Told (λ (a : Answer). call a × promise a) result index.new }
 {
+    let faces = Faces { counts, adjacency };
+    let conditions = Conditions {
+        number,
+        codes,
+        values,
+    };
+    let predicted = Field {
+        number: prediction,
+        values: predicted,
+    };
+    let fields = Corrections {
+        coefficients: Field {
+            number: coefficient,
+            values: coefficients,
+        },
+        correction: Field {
+            number: correction,
+            values: corrections,
+        },
+    };
     told(
-        simple::correct_face_flux_with_boundary(
-            counts,
-            adjacency,
-            number,
-            codes,
-            values,
-            prediction,
-            predicted,
-            coefficient,
-            coefficients,
-            correction,
-            corrections,
-            out,
-        ),
+        simple::correct_face_flux_with_boundary(&faces, &conditions, &predicted, &fields, out),
         index,
     )
 }
 
 // `simple::correct_face_flux_in_place`.
 #[unsafe(no_mangle)]
-pub extern "C" fn juvandeer_correct_face_flux_in_place(
+pub extern "C" fn juvandeer_correct_face_flux_in_place<'a>(
     counts: Counts,
-    adjacency: &[usize],
+    adjacency: &'a [usize],
     number: u64,
-    codes: &[usize],
-    values: &[f64],
+    codes: &'a [usize],
+    values: &'a [f64],
     coefficient: u64,
-    coefficients: &[f64],
+    coefficients: &'a [f64],
     correction: u64,
-    corrections: &[f64],
+    corrections: &'a [f64],
     prediction: u64,
-    flux: &mut [f64],
+    flux: &'a mut [f64],
     index: &mut usize,
 ) -> u64
     ensures told { let k = conditions_lent number codes values in
@@ -319,35 +410,39 @@ pub extern "C" fn juvandeer_correct_face_flux_in_place(
         let promise : Answer → Type 0 = λ a. Promised a adjacency.now k l flux.new in
         Told (λ (a : Answer). call a × promise a) result index.new }
 {
+    let faces = Faces { counts, adjacency };
+    let conditions = Conditions {
+        number,
+        codes,
+        values,
+    };
+    let fields = Corrections {
+        coefficients: Field {
+            number: coefficient,
+            values: coefficients,
+        },
+        correction: Field {
+            number: correction,
+            values: corrections,
+        },
+    };
     told(
-        simple::correct_face_flux_in_place(
-            counts,
-            adjacency,
-            number,
-            codes,
-            values,
-            coefficient,
-            coefficients,
-            correction,
-            corrections,
-            prediction,
-            flux,
-        ),
+        simple::correct_face_flux_in_place(&faces, &conditions, &fields, prediction, flux),
         index,
     )
 }
 
 // `simple::correct_cell_velocity_from_gradient`.
 #[unsafe(no_mangle)]
-pub extern "C" fn juvandeer_correct_cell_velocity_from_gradient(
+pub extern "C" fn juvandeer_correct_cell_velocity_from_gradient<'a>(
     counts: Counts,
     velocity: u64,
-    velocities: &[f64],
+    velocities: &'a [f64],
     response: u64,
-    responses: &[f64],
+    responses: &'a [f64],
     gradient: u64,
-    gradients: &[f64],
-    out: &mut [f64],
+    gradients: &'a [f64],
+    out: &'a mut [f64],
     index: &mut usize,
 ) -> u64
     ensures told { let v = field_lent velocity velocities in
@@ -355,24 +450,34 @@ pub extern "C" fn juvandeer_correct_cell_velocity_from_gradient(
         let g = field_lent gradient gradients in
         Told (λ (a : Answer). VelocityCall counts v w g out.old a out.new) result index.new }
 {
+    let velocity = Field {
+        number: velocity,
+        values: velocities,
+    };
+    let responses = Field {
+        number: response,
+        values: responses,
+    };
+    let gradient = Field {
+        number: gradient,
+        values: gradients,
+    };
     told(
-        simple::correct_cell_velocity_from_gradient(
-            counts, velocity, velocities, response, responses, gradient, gradients, out,
-        ),
+        simple::correct_cell_velocity_from_gradient(counts, &velocity, &responses, &gradient, out),
         index,
     )
 }
 
 // `simple::continuity_metrics`.
 #[unsafe(no_mangle)]
-pub extern "C" fn juvandeer_continuity_metrics(
+pub extern "C" fn juvandeer_continuity_metrics<'a>(
     counts: Counts,
-    adjacency: &[usize],
-    places: &[f64],
+    adjacency: &'a [usize],
+    places: &'a [f64],
     number: u64,
-    flux: &[f64],
-    outflow: &mut [f64],
-    metrics: &mut [f64],
+    flux: &'a [f64],
+    outflow: &'a mut [f64],
+    metrics: &'a mut [f64],
     index: &mut usize,
 ) -> u64
     ensures told { let f = adjacency.now in
@@ -382,46 +487,51 @@ pub extern "C" fn juvandeer_continuity_metrics(
         let call : Answer → Type 0 = λ a. MetricsCall counts f p v sums metrics.old a outflow.new metrics.new in
         Told (λ (a : Answer). call a) result index.new }
 {
+    let faces = Faces { counts, adjacency };
+    let flux = Field {
+        number: number,
+        values: flux,
+    };
     told(
-        simple::continuity_metrics(counts, adjacency, places, number, flux, outflow, metrics),
+        simple::continuity_metrics(&faces, places, &flux, outflow, metrics),
         index,
     )
 }
 
 // `step::step`.
 #[unsafe(no_mangle)]
-pub extern "C" fn juvandeer_step(
+pub extern "C" fn juvandeer_step<'a>(
     counts: Counts,
-    adjacency: &[usize],
-    geometry: &[f64],
-    heads: &[usize],
-    places: &[f64],
-    facing: &[usize],
-    bordering: &[usize],
+    adjacency: &'a [usize],
+    geometry: &'a [f64],
+    heads: &'a [usize],
+    places: &'a [f64],
+    facing: &'a [usize],
+    bordering: &'a [usize],
     number: u64,
-    codes: &[usize],
-    values: &[f64],
+    codes: &'a [usize],
+    values: &'a [f64],
     records: usize,
     velocity: u64,
-    velocities: &[f64],
+    velocities: &'a [f64],
     pressure: u64,
-    pressures: &[f64],
+    pressures: &'a [f64],
     response: u64,
-    responses: &[f64],
+    responses: &'a [f64],
     wall: u64,
-    walls: &[f64],
+    walls: &'a [f64],
     correction: u64,
-    corrections: &[f64],
-    starts: &mut [usize],
-    equations: &mut [usize],
-    weights: &mut [f64],
-    inverses: &mut [f64],
-    gradient: &mut [f64],
-    predicted: &mut [f64],
-    coefficients: &mut [f64],
-    flux: &mut [f64],
-    outflow: &mut [f64],
-    metrics: &mut [f64],
+    corrections: &'a [f64],
+    starts: &'a mut [usize],
+    equations: &'a mut [usize],
+    weights: &'a mut [f64],
+    inverses: &'a mut [f64],
+    gradient: &'a mut [f64],
+    predicted: &'a mut [f64],
+    coefficients: &'a mut [f64],
+    flux: &'a mut [f64],
+    outflow: &'a mut [f64],
+    metrics: &'a mut [f64],
     index: &mut usize,
 ) -> u64
     ensures told { let m = mesh_lent counts adjacency geometry heads places facing bordering in
@@ -432,40 +542,54 @@ pub extern "C" fn juvandeer_step(
         let demanded : Answer → Type 0 = λ a. Demanded a d flux.new outflow.new in
         Told (λ (a : Answer). StepCall d old a new × demanded a) result index.new }
 {
-    told(
-        step::step(
-            counts,
-            adjacency,
-            geometry,
-            heads,
-            places,
-            facing,
-            bordering,
-            number,
-            codes,
-            values,
-            records,
-            velocity,
-            velocities,
-            pressure,
-            pressures,
-            response,
-            responses,
-            wall,
-            walls,
-            correction,
-            corrections,
-            starts,
-            equations,
-            weights,
-            inverses,
-            gradient,
-            predicted,
-            coefficients,
-            flux,
-            outflow,
-            metrics,
-        ),
-        index,
-    )
+    let mesh = Mesh {
+        counts,
+        adjacency,
+        geometry,
+        heads,
+        places,
+        facing,
+        bordering,
+    };
+    let conditions = Conditions {
+        number,
+        codes,
+        values,
+    };
+    let fields = Fields {
+        velocity: Field {
+            number: velocity,
+            values: velocities,
+        },
+        pressure: Field {
+            number: pressure,
+            values: pressures,
+        },
+        responses: Field {
+            number: response,
+            values: responses,
+        },
+        walls: Field {
+            number: wall,
+            values: walls,
+        },
+        correction: Field {
+            number: correction,
+            values: corrections,
+        },
+    };
+    let mut out = Outputs {
+        records,
+        starts,
+        equations,
+        weights,
+        inverses,
+        gradient,
+        predicted,
+        coefficients,
+        flux,
+        outflow,
+        metrics,
+    };
+    told(step::step(&mesh, &conditions, &fields, &mut out), index)
 }

@@ -6,6 +6,7 @@ use mathlib.Core.List.{List, [], ◌∷◌}
 use mathlib.Core.Bool.{Bool, true, false, not, ◌&&◌, ◌||◌, cond, false≢true}
 use Prim.Native.Nat.{ℕ, zero, suc, ◌+◌, ◌*◌, ◌-◌, ◌/◌, ◌<◌, ◌≤◌}
 use native.Mathlib.Omega.{arith}
+use native.Mathlib.Nat.{le_refl}
 use native.Mathlib.Numerals.{sub-one, add-one}
 use lib.Dec.{leb, ltb, eqb, eqb-suc-zero}
 use lib.ListN.{length}
@@ -123,6 +124,21 @@ module _ (l : List ℕ) (records limit : ℕ) where
       let q = and_true (ltb (item_of l (suc r)) limit) _ p.1 in
       rw (eqb-suc-zero r) (ap (λ (t : List ℕ). item_of l (suc r) ∷ t) (spare k n (next_of l (suc r)) (omega arith) q.1))
 
+  -- a chain that ends within k records ends within more
+  pub ends_more : (k n r : ℕ) → k ≤ n → ends l records limit k r ≡ true → ends l records limit n r ≡ true
+  unfolding ends
+  ends_more zero n r h e = ended l records limit n r (eqb-true r 0 e)
+  ends_more (suc k) zero r h e = absurd (omega arith)
+  ends_more (suc k) (suc n) zero h e = refl
+  ends_more (suc k) (suc n) (suc r) h e =
+      let p = and_true (leb (suc r) records) _ (rw (eqb-suc-zero r) at e) in
+      let q = and_true (ltb (item_of l (suc r)) limit) _ p.1 in
+      opened l records limit n r p.0 q.0 (ends_more k n (next_of l (suc r)) (omega arith) q.1)
+
+-- where it ends within k of the records that there are, it is sound
+pub chained : (l : List ℕ) (records limit k r : ℕ) → k ≤ records → ends l records limit k r ≡ true → Chain l records limit r
+chained l records limit k r h e = record { sound = ends_more l records limit k records r h e }
+
 -- a record of a sound chain is there, and what follows it is a sound chain
 pub record Onward (l : List ℕ) (records limit r : ℕ) : Type 0 where
   pub present : r ≤ records
@@ -146,11 +162,11 @@ onward-at l records limit (suc k) (suc r) h e z =
           spare l records limit (suc k) records (suc r) h e
           ∙ rw (eqb-suc-zero r)
           (ap (λ (t : List ℕ). item_of l (suc r) ∷ t) (sym (spare l records limit k records (next_of l (suc r)) k-within q.1)));
-      rest = record { left = k; within = k-within; sound = q.1 };
+      rest = chained l records limit k (next_of l (suc r)) k-within q.1;
     }
 
 pub onward : (l : List ℕ) (records limit r : ℕ) → Chain l records limit r → (r ≡ 0 → ⊥) → Onward l records limit r
-onward l records limit r c z = onward-at l records limit c.left r c.within c.sound z
+onward l records limit r c z = onward-at l records limit records r (le_refl _) c.sound z
 
 -- the record's two numbers are there
 pub room : {l : List ℕ} {records limit r : ℕ} → length l ≡ 2 * records → (r ≡ 0 → ⊥) → Onward l records limit r → 2 * (r - 1) + 1 < length l
@@ -185,4 +201,4 @@ module _ (l : List ℕ) (records limit : ℕ) where
       ∙ rw (eqb-suc-zero r) (ap (λ (t : List ℕ). suc r ∷ t) (sym (trail_spare k records (next_of l (suc r)) k-within q.1)))
 
   pub trail_on : (r : ℕ) → Chain l records limit r → (r ≡ 0 → ⊥) → trail l records r ≡ r ∷ trail l records (next_of l r)
-  trail_on r c z = trail-at c.left r c.within c.sound z
+  trail_on r c z = trail-at records r (le_refl _) c.sound z

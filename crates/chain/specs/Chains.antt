@@ -63,8 +63,6 @@ unfoldable pub trail : List ℕ → ℕ → ℕ → List ℕ
 trail l zero r = []
 trail l (suc n) r = cond (eqb r 0) [] (r ∷ trail l n (next_of l r))
 
--- the record r stands in a sound chain, of `records` records with items below the limit
+-- the record r stands in a sound chain: it ends within the `records` records that there are, with items below the limit
 pub record Chain (l : List ℕ) (records limit r : ℕ) : Type 0 where
-  pub left : ℕ
-  pub within : left ≤ records
-  pub sound : ends l records limit left r ≡ true
+  pub sound : ends l records limit records r ≡ true

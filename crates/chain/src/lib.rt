@@ -1,4 +1,5 @@
-// Records of two whole numbers in flat slices, and chains of them: check 5.
+// Records of two whole numbers in flat slices, and chains of them: check 5. The numbers are as C lends them: records,
+// and what a second number names, count from 1, and 0 names none.
 #![tactic(auto)]
 
 ghost use Rattle.std.specs.Prelude.{◌≡◌, ◌<◌, ℕ, Bool, get_or};
@@ -29,12 +30,14 @@ pub fn number_at(s: &[usize], i: usize) -> usize
 }
 
 // The two numbers of record i of two, each 0 where it is missing.
+#[tactic(auto, unfolding(crate::specs::Pairs::first_at))]
 pub fn first_at(s: &[usize], i: usize) -> usize
     ensures { result ≡ first_at s.now i }
 {
     if i < (s.len() + 1) / 2 { s[2 * i] } else { 0 }
 }
 
+#[tactic(auto, unfolding(crate::specs::Pairs::second_at))]
 pub fn second_at(s: &[usize], i: usize) -> usize
     ensures { result ≡ second_at s.now i }
 {
@@ -55,17 +58,18 @@ pub fn lowest<F: Fn(usize) -> bool>(n: usize, test: F) -> Option<usize>
 }
 
 // The lower of two places.
+#[tactic(auto, unfolding(crate::specs::Search::lower))]
 pub fn lower_of(a: Option<usize>, b: Option<usize>) -> Option<usize>
     ensures { result ≡ lower a b }
 {
     match (a, b) {
-        (Some(i), Some(j)) => Some(if j < i { j } else { i }),
-        (Some(i), None) => Some(i),
-        (None, _) => b,
+        (Some(i), Some(j)) => Some(i.min(j)),
+        _ => a.or(b),
     }
 }
 
-// Check 5: the lowest cell whose chain of records, with items below the limit, is broken.
+// Check 5: the lowest cell whose chain of records, with items below the limit, is broken. The four stand in
+// different structs of the callers, who would make one more for this call alone.
 pub fn lowest_broken(limit: usize, records: &[usize], form: Form, heads: &[usize]) -> Option<usize>
     ensures { result ≡ lowest_broken limit records.now form heads.now }
 {

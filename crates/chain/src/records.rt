@@ -1,7 +1,10 @@
 // A sound chain of records as an iterator over its items.
+ghost use Rattle.std.specs.Prelude.{◌≡◌};
 ghost use Rattle.std.specs.Iterator.{YieldsFirst, item_count};
+ghost use Rattle.chain.specs.Chains.{head_at};
 ghost use Rattle.chain.specs.Sound.{Sound, items_from};
 
+use crate::Form;
 use crate::inner::{first_of, second_of};
 
 // What is left of a chain: its records, and the next one, 0 where there is none.
@@ -9,6 +12,19 @@ use crate::inner::{first_of, second_of};
 pub struct Records<'a> {
     pub records: &'a [usize],
     pub next: usize,
+}
+
+impl<'a> Records<'a> {
+    // Those of the cell c.
+    pub fn of(form: Form, heads: &[usize], records: &'a [usize], c: usize) -> Records<'a>
+        ensures records { result.records.now ≡ records.now }
+        ensures next { result.next ≡ head_at form heads.now c }
+    {
+        Records {
+            records,
+            next: form.head_at(heads, c),
+        }
+    }
 }
 
 impl<'a> Iterator for Records<'a> {

@@ -6,6 +6,7 @@ use crate::inner::{first_of, second_of};
 use crate::{Form, first_at, number_at, second_at};
 
 // The record after r: none where r is missing or its item is not below the limit.
+#[tactic(auto, unfolding(crate::specs::Chains::step_of))]
 fn step_at(limit: usize, records: &[usize], r: usize) -> Option<usize>
     requires { 0 < r }
     ensures { result ≡ step_of records.now (length records.now / 2) limit r }
@@ -18,30 +19,33 @@ fn step_at(limit: usize, records: &[usize], r: usize) -> Option<usize>
     None
 }
 
-// The first record of a cell's chain, 0 where the cell is missing.
-fn head_at(form: Form, heads: &[usize], cell: usize) -> usize
-    ensures { result ≡ head_at form heads.now cell }
-{
-    match form {
-        Form::Single => number_at(heads, cell),
-        Form::First => first_at(heads, cell),
-        Form::Second => second_at(heads, cell),
+impl Form {
+    // The first record of a cell's chain, 0 where the cell is missing.
+    pub fn head_at(self, heads: &[usize], cell: usize) -> usize
+        ensures { result ≡ head_at self heads.now cell }
+    {
+        match self {
+            Form::Single => number_at(heads, cell),
+            Form::First => first_at(heads, cell),
+            Form::Second => second_at(heads, cell),
+        }
     }
-}
 
-// How many cells the heads are of.
-fn cell_count(form: Form, heads: &[usize]) -> usize
-    ensures { result ≡ cell_count form heads.now }
-{
-    match form {
-        Form::Single => heads.len(),
-        Form::First => heads.len() / 2,
-        Form::Second => heads.len() / 2,
+    // How many cells the heads are of.
+    fn cell_count(self, heads: &[usize]) -> usize
+        ensures { result ≡ cell_count self heads.now }
+    {
+        match self {
+            Form::Single => heads.len(),
+            Form::First => heads.len() / 2,
+            Form::Second => heads.len() / 2,
+        }
     }
 }
 
 // Whether record i, from 0, which is not the last, has an item below the limit, and ends its chain or leads to
 // a later record.
+#[tactic(auto, unfolding(crate::specs::Chains::leads_on))]
 fn leads_on(limit: usize, records: &[usize], i: usize) -> bool
     requires { i + 1 < length records.now / 2 }
     ensures { result ≡ leads_on limit records.now i }
@@ -64,6 +68,7 @@ fn leads_on(limit: usize, records: &[usize], i: usize) -> bool
 }
 
 // Whether the last record, i, does: it ends its chain.
+#[tactic(auto, unfolding(crate::specs::Chains::leads_on))]
 fn ends_at(limit: usize, records: &[usize], i: usize) -> bool
     requires { i + 1 ≡ length records.now / 2 }
     ensures { result ≡ leads_on limit records.now i }
@@ -91,8 +96,8 @@ fn all_lead_on(limit: usize, records: &[usize]) -> bool
 pub(crate) fn heads_within(records: usize, form: Form, heads: &[usize]) -> bool
     ensures { HeadsWithin result records form heads.now }
 {
-    for cell in 0..cell_count(form, heads) {
-        if records < head_at(form, heads, cell) {
+    for cell in 0..form.cell_count(heads) {
+        if records < form.head_at(heads, cell) {
             return false;
         }
     }
@@ -116,13 +121,14 @@ pub(crate) fn lowest_broken(
     lowest_walked(limit, records, form, heads)
 }
 
-// Both walks, over the cells and over a cell's records, stop at the first broken record.
+// Both walks, over the cells and over a cell's records, stop at the first broken record, by a label: a rule of the
+// project (docs/DECISIONS.md). The next record is read and not counted, so the inner is a `while`.
 fn lowest_walked(limit: usize, records: &[usize], form: Form, heads: &[usize]) -> Option<usize>
     ensures { result ≡ lowest_broken limit records.now form heads.now }
 {
     let mut broken = None;
-    'cells: for cell in 0..cell_count(form, heads) {
-        let mut r = head_at(form, heads, cell);
+    'cells: for cell in 0..form.cell_count(heads) {
+        let mut r = form.head_at(heads, cell);
         let mut left = records.len() / 2;
         while r != 0 {
             if left == 0 {

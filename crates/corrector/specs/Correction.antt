@@ -5,10 +5,11 @@ use Rattle.std.specs.Prelude.{◌≡◌, List, cond, ℕ, ◌-◌, ◌*◌, ◌<
 use Rattle.std.specs.Float.{nan}
 use Rattle.mesh.specs.Facts.{CellsOf}
 use Rattle.mesh.specs.Pass.{first_refusal, values_of}
-use Rattle.mesh.specs.Lent.{Slice}
 use Rattle.mesh.specs.Records.{owner_at, neighbour_at, peer_at, condition_at}
 use Rattle.mesh.specs.declared.Condition.{Condition}
 use Rattle.mesh.specs.declared.Condition.TheVariants.{Absent, Fixed, ZeroGradient}
+use Rattle.mesh.specs.declared.lent.Bounds.{Bounds}
+use Rattle.mesh.specs.declared.lent.Faces.{Faces}
 use Rattle.coupling.specs.Face.{corrected_flux}
 
 -- what a correction reads: the cells, conditions and links of the faces, their predicted fluxes and coefficients, and the cells' pressure corrections
@@ -23,10 +24,9 @@ pub record Correcting : Type 0 where
 abbrev pub correcting : List ℕ → List ℕ → List Float → List Float → List Float → List Float → Correcting
 correcting a c v p k x = record { adjacency = a; codes = c; values = v; predicted = p; coefficients = k; correction = x }
 
--- from the slices as a clause names them, at the call
-abbrev pub correcting_lent : Slice ℕ → Slice ℕ → Slice Float → Slice Float → Slice Float → Slice Float → Correcting
-correcting_lent a c v p k x =
-    correcting a.entry.now c.entry.now v.entry.now p.entry.now k.entry.now x.entry.now
+-- of the faces and their conditions and links as they are lent
+abbrev pub correcting_lent : Faces → Bounds → List Float → List Float → List Float → Correcting
+correcting_lent m b p k x = correcting m.adjacency.now b.codes.now b.values.now p k x
 
 -- a one-cell face without a link, by its condition: a zero gradient keeps the flux, whatever its coefficient
 unfoldable pub wall_flux : Condition → Float → Float → Float → Outcome

@@ -17,7 +17,7 @@ inverse_answer diagonal = first_refusal (inverse_at diagonal) (length diagonal)
 abbrev pub inverses : List Float → List Float
 inverses diagonal = values_of (inverse_at diagonal) (length diagonal)
 
--- 1 and 2 of what it is lent; `outs` is the length of the output
+-- BadSize and WrongLength, of what it is lent; `outs` is the length of the output
 unfoldable pub diagonal_checks : Counts → List Float → ℕ → Answer
 diagonal_checks n diagonal outs =
     first_of (pass BadSize (sizes_ok n) ∷ pass WrongLength (eqb (length diagonal) n.cells && eqb outs n.cells) ∷ [])

@@ -35,7 +35,7 @@ unfoldable pub largest : (ℕ → Outcome) → ℕ → Float
 largest g zero = zero64
 largest g (suc n) = larger (largest g n) (value_of (g n))
 
--- a bad coefficient, 9, names no cell: its index is 0
+-- BadCoefficient names no cell: its index is 0
 unfoldable pub index_in : Reason → ℕ → ℕ
 index_in BadCoefficient c = 0
 index_in k c = c
@@ -45,7 +45,7 @@ unfoldable pub measured_by : Answer → Float → Float → Result Metrics Refus
 measured_by (Ok u) r d = Ok (record { root_mean_square = r; largest = d })
 measured_by (Err e) r d = Err (refusal e.reason (index_in e.reason e.index))
 
--- 9 where the root mean square is not finite; then each cell in order, 12 or 9
+-- BadCoefficient where the root mean square is not finite; then each cell in order, BadVolume or BadCoefficient
 unfoldable pub metrics_of : List Float → List Float → Result Metrics Refusal
 metrics_of places outflow =
     let n = length outflow in
@@ -64,7 +64,7 @@ metrics_numbers (Err e) = replicate 2 zero64
 
 -- ---- the entry
 
--- 2 of what it is lent; the outputs have so many numbers
+-- WrongLength, of what it is lent; the outputs have so many numbers
 abbrev pub metrics_sizes : Counts → List ℕ → List Float → Field → ℕ → ℕ → List Bool
 metrics_sizes n adjacency places flux outs two =
     eqb (length adjacency) (2 * n.faces)
@@ -74,7 +74,7 @@ metrics_sizes n adjacency places flux outs two =
     ∷ eqb two 2
     ∷ []
 
--- 1 to 4
+-- BadSize, WrongLength, OtherMesh and BadFace, in this order
 unfoldable pub metrics_checks : Counts → List ℕ → List Float → Field → ℕ → ℕ → Answer
 metrics_checks n adjacency places flux outs two =
     first_of

@@ -15,7 +15,7 @@ use Rattle.coupling.specs.Grid.{Field}
 unfoldable pub corrected_at : List Float → List Float → List Float → ℕ → Vec3
 corrected_at velocity responses gradient c = corrected_velocity (vector_at velocity (3 * c)) (get_or responses c nan) (vector_at gradient (3 * c))
 
--- whether 11 is met at the cell c
+-- whether the cell c is refused, as BadDiagonal
 unfoldable pub fails_at : List Float → List Float → List Float → ℕ → Bool
 fails_at velocity responses gradient c = not (stands (get_or responses c nan) (corrected_at velocity responses gradient c))
 
@@ -25,7 +25,7 @@ velocity_answer velocity responses gradient = at BadDiagonal (lowest_where (fail
 abbrev pub corrected_velocities : List Float → List Float → List Float → List Float
 corrected_velocities velocity responses gradient = vectors_of (corrected_at velocity responses gradient) (length responses)
 
--- 2 of the fields and of the output, which has so many numbers
+-- WrongLength, of the fields and of the output, which has so many numbers
 abbrev pub velocity_sizes : Counts → Field → Field → Field → ℕ → List Bool
 velocity_sizes n velocity responses gradient outs =
     eqb (length velocity.values) (3 * n.cells)
@@ -34,7 +34,7 @@ velocity_sizes n velocity responses gradient outs =
     ∷ eqb outs (3 * n.cells)
     ∷ []
 
--- 1, 2 and 3 of what it is lent
+-- BadSize, WrongLength and OtherMesh, of what it is lent
 unfoldable pub velocity_checks : Counts → Field → Field → Field → ℕ → Answer
 velocity_checks n velocity responses gradient outs =
     first_of

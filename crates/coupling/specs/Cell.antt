@@ -6,7 +6,7 @@ use Rattle.binary64.specs.Numbers.{one64, is_finite, is_usable, magnitude, ◌�
 use Rattle.vector.specs.Vector.{difference, scaled}
 use Rattle.vector.specs.declared.Vec3.{Vec3}
 
--- 1 / value, infinite or not; 11 where the value is not finite or is at most 0
+-- 1 / value, infinite or not; BadDiagonal where the value is not finite or is at most 0
 unfoldable pub inverse_diagonal : Float → Outcome
 inverse_diagonal value = cond (is_usable value) (Ok (one64 ⊘ value)) (Err BadDiagonal)
 
@@ -17,11 +17,11 @@ corrected_velocity velocity response gradient = difference velocity (scaled grad
 abbrev pub finite3 : Vec3 → Bool
 finite3 v = is_finite v.x && is_finite v.y && is_finite v.z
 
--- a corrected velocity stands where the response is finite and above 0 and the velocity is finite; else it is 11
+-- a corrected velocity stands where the response is finite and above 0 and the velocity is finite; else it is BadDiagonal
 unfoldable pub stands : Float → Vec3 → Bool
 stands response v = is_usable response && finite3 v
 
--- |outflow / volume|; 12 where the volume is not finite or is at most 0, then 9 where the divergence is not finite
+-- |outflow / volume|; BadVolume where the volume is not finite or is at most 0, then BadCoefficient where the divergence is not finite
 unfoldable pub divergence : Float → Float → Outcome
 divergence outflow volume =
     let d = magnitude (outflow ⊘ volume) in

@@ -31,11 +31,11 @@ face_response d r = (d.other ⊗ r.owner ⊕ d.owner ⊗ r.other) ⊘ (d.owner �
 unfoldable pub projected : Float → Vec3 → Vec3 → Float
 projected response area d = response ⊗ dot area d ⊘ norm_squared d
 
--- 9 where a coefficient is not finite or is at most 0
+-- BadCoefficient where a coefficient is not finite or is at most 0
 unfoldable pub positive : Float → Outcome
 positive k = cond (is_usable k) (Ok k) (Err BadCoefficient)
 
--- of a face with two cells; 7 where d² or the sum of the two distances is not finite or is at most EPS
+-- of a face with two cells; TooNear where d² or the sum of the two distances is not finite or is at most EPS
 unfoldable pub internal_coefficient : Span → Pair → Pair → Outcome
 internal_coefficient s d r =
     cond (is_far (norm_squared (across s)))
@@ -66,13 +66,13 @@ predicted s d k a b =
     let covariance = difference weighted (scaled gradient (w ⊗ a.response ⊕ u ⊗ b.response)) in
     dot velocity s.area ⊕ dot covariance s.area ⊕ k ⊗ (dot gradient (across s) ⊖ (b.pressure ⊖ a.pressure))
 
--- 9 where it is not finite
+-- BadCoefficient where it is not finite
 unfoldable pub predicted_flux : Span → Pair → Float → Side → Side → Outcome
 predicted_flux s d k a b = cond (is_finite (predicted s d k a b)) (Ok (predicted s d k a b)) (Err BadCoefficient)
 
 -- ---- the corrected flux
 
--- predicted − coefficient × (other − own); 9 for the coefficient first, then for a result that is not finite
+-- predicted − coefficient × (other − own); BadCoefficient for the coefficient first, then for a result that is not finite
 unfoldable pub corrected_flux : Float → Float → Float → Float → Outcome
 corrected_flux p k other own =
     let v = p ⊖ k ⊗ (other ⊖ own) in

@@ -8,6 +8,8 @@ use Rattle.mesh.specs.Records.{owner_at, neighbour_at, face_centre, centre, face
 use Rattle.chain.specs.Search.{every_of}
 use Rattle.mesh.specs.declared.Counts.{Counts}
 use Rattle.mesh.specs.declared.Face.{Face}
+use Rattle.mesh.specs.declared.lent.Grid.{Grid as LentGrid}
+use Rattle.mesh.specs.declared.lent.Field.{Field as LentField}
 use Rattle.vector.specs.declared.Vec3.{Vec3}
 use Rattle.coupling.specs.Face.{pair}
 use Rattle.coupling.specs.declared.Pair.{Pair}
@@ -24,6 +26,10 @@ grid a g p = record { adjacency = a; geometry = g; places = p }
 -- from the slices as a clause names them, at the call
 abbrev pub grid_lent : Slice ℕ → Slice Float → Slice Float → Grid
 grid_lent a g p = grid a.entry.now g.entry.now p.entry.now
+
+-- of a grid as it is lent
+abbrev pub grid_of_lent : LentGrid → Grid
+grid_of_lent m = grid m.adjacency.now m.geometry.now m.places.now
 
 -- the owner of a face, and the other cell of a face with two
 abbrev pub own_cell : Grid → ℕ → ℕ
@@ -63,6 +69,10 @@ field n v = record { number = n; values = v }
 
 abbrev pub field_lent : ℕ → Slice Float → Field
 field_lent n v = field n v.entry.now
+
+-- of a field as it is lent
+abbrev pub field_of : LentField → Field
+field_of x = field x.number x.values.now
 
 -- 2: each slice is as long as its records
 abbrev pub grid_sizes : Counts → Grid → List Bool

@@ -15,7 +15,7 @@ use Rattle.chain.specs.Chains.{item_of, next_of, ends, walk, head_at, cell_count
 use Rattle.chain.specs.declared.Form.TheVariants.{First}
 use Rattle.chain.proofs.Search.{none_found, below_none, below_more}
 use Rattle.chain.proofs.Truth.{and_true}
-use Rattle.chain.proofs.Chains.{ended, opened, spare, walk_over}
+use Rattle.chain.proofs.Chains.{ended, opened, spare, walk_over, ends_more}
 use Rattle.degree.specs.Degree.{most_faces, long, lowest_long}
 use Rattle.degree.specs.Counts.{begin_after, Short}
 
@@ -88,18 +88,6 @@ module _ (l : List ℕ) (h : ℕ) where
 
 pub ruleset passing = (few_records, unpassed, pass_one, no_more, at_most)
 
--- ---- a chain known to end within so many records
-
-pub ends_more : (l : List ℕ) (records limit k n r : ℕ) → k ≤ n → ends l records limit k r ≡ true → ends l records limit n r ≡ true
-unfolding ends
-ends_more l records limit zero n r h e = ended l records limit n r (eqb-true r 0 e)
-ends_more l records limit (suc k) zero r h e = absurd (omega arith)
-ends_more l records limit (suc k) (suc n) zero h e = refl
-ends_more l records limit (suc k) (suc n) (suc r) h e =
-    let p = and_true (leb (suc r) records) _ (rw (eqb-suc-zero r) at e) in
-    let q = and_true (ltb (item_of l (suc r)) limit) _ p.1 in
-    opened l records limit n r p.0 q.0 (ends_more l records limit k n (next_of l (suc r)) (omega arith) q.1)
-
 -- a short chain is not broken, and has at most as many records as a cell may have faces
 module _ (l : List ℕ) (limit : ℕ) (all : (i : ℕ) → i < length l / 2 → Short l limit (suc i)) where
   short_at : (r : ℕ) → r ≤ length l / 2 → Short l limit r
@@ -137,9 +125,6 @@ pub record Runs (limit : ℕ) (l : List ℕ) (begin i : ℕ) : Type 0 where
   pub onward : (j : ℕ) → begin ≤ j → j < i → (first_at l j < limit) × (second_at l j ≡ j + 2)
 
 module _ (limit : ℕ) (l : List ℕ) where
-  pub start : Runs limit l 0 0
-  start = record { within = omega arith; begun = omega arith; done = below_none (λ j. Short l limit (suc j)); onward = λ j a b. absurd (omega (arith, a, b)) }
-
   pub leads : (begin i : ℕ) → Runs limit l begin i → i < length l / 2 → first_at l i < limit → second_at l i ≡ i + 2 → Runs limit l begin (i + 1)
   leads begin i r h a e = record {
     within = omega (arith, h);
@@ -188,9 +173,6 @@ module _ (limit : ℕ) (l : List ℕ) where
           go : (t : Bool) → ltb j begin ≡ t → Short l limit (suc j)
           go true q = r.done j (ltb-true j begin q)
           go false q = short j (ltb-false j begin q) (omega (arith, b))
-
-  pub finish : (begin i : ℕ) → Runs limit l begin i → begin ≡ length l / 2 → (j : ℕ) → j < length l / 2 → Short l limit (suc j)
-  finish begin i r e j h = r.done j (omega (arith, e, h))
 
   -- one record on
   pub more : (begin i b : ℕ) → Runs limit l begin i → i < length l / 2 → begin_after limit l i begin ≡ Some b → Runs limit l b (i + 1)

@@ -1,10 +1,11 @@
-// The count of the faces that name each cell.
+// The count of the faces that name each cell. How many cells there are and the adjacency go apart: the struct that
+// has both, `Faces`, is of `mesh`, above this crate.
 ghost use Rattle.std.specs.Prelude.{◌≡◌, ◌+◌, ◌*◌, ◌/◌, ◌<◌, ◌≤◌, length, replicate};
 ghost use Rattle.degree.specs.Degree.{lowest_crowded};
 ghost use Rattle.degree.specs.Counts.{capped, bumped, with_face, counted};
 
 use crate::MOST_FACES;
-use chain::inner::{first_of, second_of};
+use chain::inner::{first_of, named_at};
 
 // Where a count stops: one above the most.
 const OVER: u8 = MOST_FACES as u8 + 1;
@@ -34,11 +35,10 @@ fn add_face(adjacency: &[usize], f: usize, named: &mut [u8])
     ensures { named.new ≡ with_face adjacency.now f named.old }
 {
     let owner = first_of(adjacency, f);
-    let neighbour = second_of(adjacency, f);
     bump(named, owner);
-    if neighbour != 0 {
-        if neighbour - 1 != owner {
-            bump(named, neighbour - 1);
+    if let Some(neighbour) = named_at(adjacency, f) {
+        if neighbour != owner {
+            bump(named, neighbour);
         }
     }
 }
@@ -64,7 +64,7 @@ fn lowest_in(cells: usize, adjacency: &[usize], named: &mut [u8]) -> Option<usiz
     chain::lowest(cells, |c| MOST_FACES < usize::from(named[c]))
 }
 
-// The same with room for N cells.
+// The same with room for N cells, in an array: the engine has no heap.
 pub(crate) fn lowest_of<const N: usize>(cells: usize, adjacency: &[usize]) -> Option<usize>
     requires room { cells ≤ N }
     requires few { N ≤ 65536 }

@@ -5,33 +5,35 @@ ghost use Rattle.chain.specs.declared.Form.TheVariants.{First};
 ghost use Rattle.degree.specs.Degree.{long, lowest_long};
 ghost use Rattle.degree.specs.Counts.{begin_after, AllShort};
 
-use crate::MOST_FACES;
+use crate::{Chains, MOST_FACES};
 use chain::inner::{first_of, second_of};
 use chain::{first_at, second_at};
 
-// Whether a cell's chain has more than 26 records.
-#[tactic(auto, using(crate::proofs::Chained::passing), unfolding(crate::specs::Degree::long))]
-fn is_long(heads: &[usize], facing: &[usize], cell: usize) -> bool
-    ensures { result ≡ long facing.now heads.now cell }
-{
-    if facing.len() / 2 <= MOST_FACES {
-        return false;
-    }
-    let mut r = first_at(heads, cell);
-    for _n in 0..MOST_FACES {
-        if r == 0 {
+impl<'a> Chains<'a> {
+    // Whether a cell's chain has more than 26 records.
+    #[tactic(auto, using(crate::proofs::Chained::passing), unfolding(crate::specs::Degree::long))]
+    fn is_long(&self, cell: usize) -> bool
+        ensures { result ≡ long self.now.facing.now self.now.heads.now cell }
+    {
+        if self.facing.len() / 2 <= MOST_FACES {
             return false;
         }
-        r = second_at(facing, r - 1);
+        let mut r = first_at(self.heads, cell);
+        for _n in 0..MOST_FACES {
+            if r == 0 {
+                return false;
+            }
+            r = second_at(self.facing, r - 1);
+        }
+        r != 0
     }
-    r != 0
-}
 
-// The lowest cell whose chain has.
-pub(crate) fn lowest(heads: &[usize], facing: &[usize]) -> Option<usize>
-    ensures { result ≡ lowest_long heads.now facing.now }
-{
-    chain::lowest(heads.len() / 2, |cell| is_long(heads, facing, cell))
+    // Check 14, of the chains of faces: the lowest cell whose chain has more than 26 records.
+    pub fn lowest_long(&self) -> Option<usize>
+        ensures { result ≡ lowest_long self.now.heads.now self.now.facing.now }
+    {
+        chain::lowest(self.heads.len() / 2, |cell| self.is_long(cell))
+    }
 }
 
 // Where the chain of the next record begins, once record i, from 0, of a chain that begins at `begin` is read:

@@ -2,7 +2,7 @@
 #![tactic(auto)]
 
 ghost use Rattle.std.specs.Prelude.{◌≡◌};
-ghost use Rattle.degree.specs.Degree.{lowest_long, searched};
+ghost use Rattle.degree.specs.Degree.{searched};
 
 mod count;
 pub mod inner;
@@ -21,28 +21,30 @@ pub struct Facing {
     pub long: Option<usize>,
 }
 
-// Check 14, of the chains of faces: the lowest cell whose chain has more than 26 records.
-pub fn lowest_long(heads: &[usize], facing: &[usize]) -> Option<usize>
-    ensures { result ≡ lowest_long heads.now facing.now }
-{
-    length::lowest(heads, facing)
+// The first records of each cell's two chains, and the records of faces.
+#[derive(Clone, Copy)]
+pub struct Chains<'a> {
+    pub heads: &'a [usize],
+    pub facing: &'a [usize],
 }
 
-// The checks 5 and 14 of the chains of faces. Where every record leads to the one behind it or ends its chain,
-// one reading of the records tells both.
-pub fn search(faces: usize, heads: &[usize], facing: &[usize]) -> Facing
-    ensures { result ≡ searched faces heads.now facing.now }
-{
-    if length::all_short(faces, facing) {
-        if chain::inner::heads_within_facing(facing.len() / 2, heads) {
-            return Facing {
-                broken: None,
-                long: None,
-            };
+impl<'a> Chains<'a> {
+    // The checks 5 and 14, in a mesh of so many faces. Where every record leads to the one behind it or ends its
+    // chain, one reading of the records tells both.
+    pub fn search(&self, faces: usize) -> Facing
+        ensures { result ≡ searched faces self.now.heads.now self.now.facing.now }
+    {
+        if length::all_short(faces, self.facing) {
+            if chain::inner::heads_within_facing(self.facing.len() / 2, self.heads) {
+                return Facing {
+                    broken: None,
+                    long: None,
+                };
+            }
         }
-    }
-    Facing {
-        broken: chain::lowest_broken(faces, facing, Form::First, heads),
-        long: length::lowest(heads, facing),
+        Facing {
+            broken: chain::lowest_broken(faces, self.facing, Form::First, self.heads),
+            long: self.lowest_long(),
+        }
     }
 }

@@ -1,8 +1,13 @@
-// The call of each entry. An output is as long as what the case has by its name.
+// The call of each entry. An output is as long as what the case has by its name: a `Vec`, or an array where that has
+// one length in every case.
 use crate::case::Case;
-use crate::output::{FILL, Output, Told, fill};
+use crate::output::{Output, Told};
 use mesh::Answer;
+use pattern::{FILL, fill};
+use simple::{Corrections, FlowFields};
 use std::io;
+use stencil::StencilMut;
+use step::{Fields, Outputs};
 
 fn tell(rt: &impl Print, answer: Answer, outputs: &[Output<'_>]) -> io::Result<()> {
     println!(rt; "{}", Told { answer, outputs })
@@ -53,29 +58,18 @@ pub(crate) fn least_squares_stencil<R: Print + AllocGlobal>(
     rt: &R,
     case: &Case<'_>,
 ) -> io::Result<()> {
-    let mesh = case.mesh;
-    let conditions = case.conditions;
     let mut starts = [FILL; 2];
     let mut equations = vec![in rt.alloc(); FILL; case.stencil.equations.len()]?;
     let mut weights = vec![in rt.alloc(); fill(); case.stencil.weights.len()]?;
     let mut inverses = [fill(); 18];
-    let answer = stencil::least_squares_stencil(
-        mesh.counts,
-        mesh.adjacency,
-        mesh.geometry,
-        mesh.heads,
-        mesh.places,
-        mesh.facing,
-        mesh.bordering,
-        conditions.number,
-        conditions.codes,
-        conditions.values,
-        case.stencil.records,
-        &mut starts,
-        &mut equations,
-        &mut weights,
-        &mut inverses,
-    );
+    let mut out = StencilMut {
+        records: case.stencil.records,
+        starts: &mut starts,
+        equations: &mut equations,
+        weights: &mut weights,
+        inverses: &mut inverses,
+    };
+    let answer = stencil::least_squares_stencil(&case.mesh, &case.conditions, &mut out);
     tell(
         rt,
         answer,
@@ -93,18 +87,7 @@ pub(crate) fn least_squares_gradient<R: Print + AllocGlobal>(
     case: &Case<'_>,
 ) -> io::Result<()> {
     one(rt, case.gradient.values.len(), |out| {
-        numerics::least_squares_gradient(
-            case.mesh.counts,
-            case.stencil.number,
-            case.stencil.records,
-            case.stencil.starts,
-            case.stencil.equations,
-            case.stencil.weights,
-            case.stencil.inverses,
-            case.pressure.number,
-            case.pressure.values,
-            out,
-        )
+        numerics::least_squares_gradient(case.mesh.counts, &case.stencil, &case.pressure, out)
     })
 }
 
@@ -113,15 +96,7 @@ pub(crate) fn pressure_face_coefficients<R: Print + AllocGlobal>(
     case: &Case<'_>,
 ) -> io::Result<()> {
     one(rt, case.coefficients.values.len(), |out| {
-        simple::pressure_face_coefficients(
-            case.mesh.counts,
-            case.mesh.adjacency,
-            case.mesh.geometry,
-            case.mesh.places,
-            case.responses.number,
-            case.responses.values,
-            out,
-        )
+        simple::pressure_face_coefficients(&case.mesh.grid(), &case.responses, out)
     })
 }
 
@@ -131,15 +106,9 @@ pub(crate) fn pressure_face_coefficients_with_boundary<R: Print + AllocGlobal>(
 ) -> io::Result<()> {
     one(rt, case.coefficients.values.len(), |out| {
         simple::pressure_face_coefficients_with_boundary(
-            case.mesh.counts,
-            case.mesh.adjacency,
-            case.mesh.geometry,
-            case.mesh.places,
-            case.conditions.number,
-            case.conditions.codes,
-            case.conditions.values,
-            case.responses.number,
-            case.responses.values,
+            &case.mesh.grid(),
+            &case.conditions,
+            &case.responses,
             out,
         )
     })
@@ -151,26 +120,17 @@ pub(crate) fn rhie_chow_predicted_flux<R: Print + AllocGlobal>(
 ) -> io::Result<()> {
     let n = case.gradient.values.len();
     let m = case.predicted.values.len();
+    let fields = FlowFields {
+        velocity: case.velocity,
+        pressure: case.pressure,
+        responses: case.responses,
+        walls: case.walls,
+    };
     two(rt, n, m, |gradient, predicted| {
         simple::rhie_chow_predicted_flux(
-            case.mesh.counts,
-            case.mesh.adjacency,
-            case.mesh.geometry,
-            case.mesh.places,
-            case.stencil.number,
-            case.stencil.records,
-            case.stencil.starts,
-            case.stencil.equations,
-            case.stencil.weights,
-            case.stencil.inverses,
-            case.velocity.number,
-            case.velocity.values,
-            case.pressure.number,
-            case.pressure.values,
-            case.responses.number,
-            case.responses.values,
-            case.walls.number,
-            case.walls.values,
+            &case.mesh.grid(),
+            &case.stencil,
+            &fields,
             gradient,
             predicted,
         )
@@ -181,19 +141,16 @@ pub(crate) fn correct_face_flux_with_boundary<R: Print + AllocGlobal>(
     rt: &R,
     case: &Case<'_>,
 ) -> io::Result<()> {
+    let fields = Corrections {
+        coefficients: case.coefficients,
+        correction: case.correction,
+    };
     one(rt, case.flux.values.len(), |out| {
         simple::correct_face_flux_with_boundary(
-            case.mesh.counts,
-            case.mesh.adjacency,
-            case.conditions.number,
-            case.conditions.codes,
-            case.conditions.values,
-            case.predicted.number,
-            case.predicted.values,
-            case.coefficients.number,
-            case.coefficients.values,
-            case.correction.number,
-            case.correction.values,
+            &case.mesh.grid().faces(),
+            &case.conditions,
+            &case.predicted,
+            &fields,
             out,
         )
     })
@@ -206,12 +163,9 @@ pub(crate) fn correct_cell_velocity_from_gradient<R: Print + AllocGlobal>(
     one(rt, case.corrected.len(), |out| {
         simple::correct_cell_velocity_from_gradient(
             case.mesh.counts,
-            case.velocity.number,
-            case.velocity.values,
-            case.responses.number,
-            case.responses.values,
-            case.gradient.number,
-            case.gradient.values,
+            &case.velocity,
+            &case.responses,
+            &case.gradient,
             out,
         )
     })
@@ -222,13 +176,7 @@ pub(crate) fn integrated_divergence<R: Print + AllocGlobal>(
     case: &Case<'_>,
 ) -> io::Result<()> {
     one(rt, case.outflow.len(), |out| {
-        numerics::integrated_divergence(
-            case.mesh.counts,
-            case.mesh.adjacency,
-            case.flux.number,
-            case.flux.values,
-            out,
-        )
+        numerics::integrated_divergence(&case.mesh.grid().faces(), &case.flux, out)
     })
 }
 
@@ -242,11 +190,9 @@ pub(crate) fn continuity_metrics<R: Print + AllocGlobal>(
         case.metrics.len(),
         |outflow, metrics| {
             simple::continuity_metrics(
-                case.mesh.counts,
-                case.mesh.adjacency,
+                &case.mesh.grid().faces(),
                 case.mesh.places,
-                case.flux.number,
-                case.flux.values,
+                &case.flux,
                 outflow,
                 metrics,
             )
@@ -255,8 +201,13 @@ pub(crate) fn continuity_metrics<R: Print + AllocGlobal>(
 }
 
 pub(crate) fn step<R: Print + AllocGlobal>(rt: &R, case: &Case<'_>) -> io::Result<()> {
-    let mesh = case.mesh;
-    let conditions = case.conditions;
+    let fields = Fields {
+        velocity: case.velocity,
+        pressure: case.pressure,
+        responses: case.responses,
+        walls: case.walls,
+        correction: case.correction,
+    };
     let mut starts = [FILL; 2];
     let mut equations = vec![in rt.alloc(); FILL; case.stencil.equations.len()]?;
     let mut weights = vec![in rt.alloc(); fill(); case.stencil.weights.len()]?;
@@ -267,39 +218,20 @@ pub(crate) fn step<R: Print + AllocGlobal>(rt: &R, case: &Case<'_>) -> io::Resul
     let mut flux = [fill(); 7];
     let mut outflow = [fill(); 2];
     let mut metrics = [fill(); 2];
-    let answer = step::step(
-        mesh.counts,
-        mesh.adjacency,
-        mesh.geometry,
-        mesh.heads,
-        mesh.places,
-        mesh.facing,
-        mesh.bordering,
-        conditions.number,
-        conditions.codes,
-        conditions.values,
-        case.stencil.records,
-        case.velocity.number,
-        case.velocity.values,
-        case.pressure.number,
-        case.pressure.values,
-        case.responses.number,
-        case.responses.values,
-        case.walls.number,
-        case.walls.values,
-        case.correction.number,
-        case.correction.values,
-        &mut starts,
-        &mut equations,
-        &mut weights,
-        &mut inverses,
-        &mut gradient,
-        &mut predicted,
-        &mut coefficients,
-        &mut flux,
-        &mut outflow,
-        &mut metrics,
-    );
+    let mut out = Outputs {
+        records: case.stencil.records,
+        starts: &mut starts,
+        equations: &mut equations,
+        weights: &mut weights,
+        inverses: &mut inverses,
+        gradient: &mut gradient,
+        predicted: &mut predicted,
+        coefficients: &mut coefficients,
+        flux: &mut flux,
+        outflow: &mut outflow,
+        metrics: &mut metrics,
+    };
+    let answer = step::step(&case.mesh, &case.conditions, &fields, &mut out);
     tell(
         rt,
         answer,

@@ -1,17 +1,7 @@
 // What is lent to an entry.
 use crate::change::Part;
 use mesh::{Conditions, Counts, Field, Mesh};
-
-// A stencil with room for so many equation records, and the number of its mesh.
-#[derive(Clone, Copy)]
-pub struct Stencil<'a> {
-    pub number: u64,
-    pub records: usize,
-    pub starts: &'a [usize],
-    pub equations: &'a [usize],
-    pub weights: &'a [f64],
-    pub inverses: &'a [f64],
-}
+use numerics::Stencil;
 
 // An entry is lent some of these; what it hands out is as long as what the case has by that name.
 #[derive(Clone, Copy)]

@@ -1,6 +1,5 @@
 // What the cases change in the base.
 use crate::case::{Case, base};
-use crate::entry::Entry;
 use std::alloc::AllocError;
 use std::io;
 
@@ -118,12 +117,18 @@ impl Change {
         Ok(())
     }
 
-    // Calls an entry with the changed base, and writes the answer and the outputs.
-    pub(crate) fn show<R: Print + AllocGlobal>(self, rt: &R, entry: Entry) -> io::Result<()> {
+    // Makes a call with the changed base.
+    pub(crate) fn show<R: Print + AllocGlobal, F: Fn(&R, &Case<'_>) -> io::Result<()>>(
+        self,
+        rt: &R,
+        call: &F,
+    ) -> io::Result<()>
+        requires { F.IsAlwaysCallable call.now }
+    {
         let mut whole = Vec::new(rt.alloc());
         let mut floats = Vec::new(rt.alloc());
         let mut case = base();
         self.apply(&mut case, &mut whole, &mut floats)?;
-        entry.show(rt, &case)
+        call(rt, &case)
     }
 }

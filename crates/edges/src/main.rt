@@ -3,44 +3,92 @@
 // edges` from the Rust; none was taken from a run.
 #![tactic(auto)]
 
+use case::Case;
 use change::Change;
-use entry::Entry;
 use std::io;
 
 mod calls;
 mod case;
 mod change;
-mod entry;
 mod output;
 mod tables;
 
 // Writes the lines of an entry's cases: the base, with the change that the name says.
-fn run<R: Print + AllocGlobal>(rt: &R, entry: Entry, cases: &[(&str, Change)]) -> io::Result<()> {
+fn run<R: Print + AllocGlobal, F: Fn(&R, &Case<'_>) -> io::Result<()>>(
+    rt: &R,
+    entry: &str,
+    cases: &[(&str, Change)],
+    call: F,
+) -> io::Result<()>
+    requires { F.IsAlwaysCallable call }
+{
     for (name, change) in cases {
         print!(rt; "{entry}, {name}: ")?;
-        change.show(rt, entry)?;
+        change.show(rt, &call)?;
     }
     Ok(())
 }
 
 fn main(rt: HostRuntime) -> io::Result<()> {
-    run(&rt, Entry::MomentumInverseDiagonal, tables::DIAGONAL)?;
-    run(&rt, Entry::LeastSquaresStencil, tables::STENCIL)?;
-    run(&rt, Entry::LeastSquaresGradient, tables::GRADIENT)?;
-    run(&rt, Entry::PressureFaceCoefficients, tables::COEFFICIENTS)?;
     run(
         &rt,
-        Entry::PressureFaceCoefficientsWithBoundary,
+        "momentum_inverse_diagonal",
+        tables::DIAGONAL,
+        calls::momentum_inverse_diagonal,
+    )?;
+    run(
+        &rt,
+        "least_squares_stencil",
+        tables::STENCIL,
+        calls::least_squares_stencil,
+    )?;
+    run(
+        &rt,
+        "least_squares_gradient",
+        tables::GRADIENT,
+        calls::least_squares_gradient,
+    )?;
+    run(
+        &rt,
+        "pressure_face_coefficients",
+        tables::COEFFICIENTS,
+        calls::pressure_face_coefficients,
+    )?;
+    run(
+        &rt,
+        "pressure_face_coefficients_with_boundary",
         tables::BOUNDARY,
+        calls::pressure_face_coefficients_with_boundary,
     )?;
-    run(&rt, Entry::RhieChowPredictedFlux, tables::PREDICTION)?;
-    run(&rt, Entry::CorrectFaceFluxWithBoundary, tables::CORRECTION)?;
     run(
         &rt,
-        Entry::CorrectCellVelocityFromGradient,
-        tables::VELOCITY,
+        "rhie_chow_predicted_flux",
+        tables::PREDICTION,
+        calls::rhie_chow_predicted_flux,
     )?;
-    run(&rt, Entry::IntegratedDivergence, tables::OUTFLOW)?;
-    run(&rt, Entry::ContinuityMetrics, tables::METRICS)?;
-    run(&rt, Entry::Step, tables::STEP)
+    run(
+        &rt,
+        "correct_face_flux_with_boundary",
+        tables::CORRECTION,
+        calls::correct_face_flux_with_boundary,
+    )?;
+    run(
+        &rt,
+        "correct_cell_velocity_from_gradient",
+        tables::VELOCITY,
+        calls::correct_cell_velocity_from_gradient,
+    )?;
+    run(
+        &rt,
+        "integrated_divergence",
+        tables::OUTFLOW,
+        calls::integrated_divergence,
+    )?;
+    run(
+        &rt,
+        "continuity_metrics",
+        tables::METRICS,
+        calls::continuity_metrics,
+    )?;
+    run(&rt, "step", tables::STEP, calls::step)
 }

@@ -1,15 +1,9 @@
-// What outputs hold before a call and after it.
+// What outputs hold after a call. Before it each number is `pattern::FILL`, which is no result of a case.
 use mesh::Answer;
+use pattern::FILL;
 use pattern::inner::holds;
 use pattern::word::Words;
 use std::fmt;
-
-// The word of each number before a call. As a float it is no NaN, and no result of a case.
-pub const FILL: usize = 0xa5a5_a5a5_a5a5_a5a5;
-
-pub(crate) fn fill() -> f64 {
-    pattern::value(FILL as u64)
-}
 
 #[derive(Clone, Copy)]
 pub enum Output<'a> {
@@ -17,6 +11,7 @@ pub enum Output<'a> {
     Floats(&'a [f64]),
 }
 
+// The arms of each `match` below read alike, and their numbers are of two types, which one arm cannot bind.
 impl Output<'_> {
     fn is_filled_with(&self, word: usize) -> bool {
         match self {

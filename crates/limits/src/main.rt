@@ -16,7 +16,8 @@ mod large;
 mod links;
 mod shape;
 
-// An answer as the lines give it.
+// An answer as the lines give it. `edges` and `oneslice` write more beside theirs: each program says in a few
+// lines what it prints.
 #[derive(Clone, Copy)]
 struct Told(Answer);
 

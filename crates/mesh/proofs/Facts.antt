@@ -5,7 +5,8 @@ use mathlib.Core.Path.{◌≡◌, refl, sym, ap}
 use mathlib.Core.Logic.{inl, inr}
 use mathlib.Core.List.{List, [], ◌∷◌}
 use mathlib.Core.Bool.{Bool, true, false, not, cond}
-use Prim.Native.Nat.{ℕ, zero, suc, ◌+◌, ◌-◌, ◌*◌, ◌/◌, ◌≤◌}
+use Prim.Native.Nat.{ℕ, zero, suc, ◌+◌, ◌-◌, ◌*◌, ◌/◌, ◌≤◌, ◌<◌}
+use native.Mathlib.Decide.{le_ind}
 use native.Mathlib.Nat.{eq-zero-or-pos}
 use native.Mathlib.Omega.{arith}
 use lib.Dec.{eqb, leb, ltb}
@@ -13,7 +14,8 @@ use lib.ListN.{length, get_or}
 use borrow.Author.Tests.{eqb-true, eqb-false, ltb-true, ltb-false, leb-true, leb-false, not-false}
 use Rattle.refusal.specs.declared.Reason.{Reason}
 use Rattle.refusal.specs.declared.Refusal.{Refusal}
-use Rattle.mesh.specs.Answers.{or_else, first_of, pass, at, shape, Answer, accepted}
+use Rattle.mesh.specs.Pass.{after, first_refusal}
+use Rattle.mesh.specs.Answers.{Outcome, refused, or_else, first_of, pass, at, shape, Answer, accepted}
 use Rattle.mesh.specs.Checks.{size_tests, sizes_ok, bad_face, lowest_bad_face, unknown_code, lowest_unknown_code, bad_link, lowest_bad_link}
 use Rattle.chain.specs.Chains.{ends, head_at, cell_count, broken_cell, lowest_broken}
 use Rattle.mesh.specs.Records.{owner_at, neighbour_at, peer_at}
@@ -76,7 +78,7 @@ pub chains_in : (limit : ℕ) (records : List ℕ) (form : Form) (heads : List �
 unfolding broken_cell
 chains_in limit records form heads h c l =
     let e = none_below (broken_cell limit records form heads) (cell_count form heads) c h l in
-    record { left = length records / 2; within = omega arith; sound = not-false (ends records (length records / 2) limit (length records / 2) (head_at form heads c)) e }
+    record { sound = not-false (ends records (length records / 2) limit (length records / 2) (head_at form heads c)) e }
 
 -- the tests of a link, by the peer's
 link_tests : (peer faces : ℕ) (z m r : Bool) → z ≡ eqb peer 0 → m ≡ ltb faces peer → (peer ≡ 0 → ⊥) → cond z false (cond m true r) ≡ false → (peer ≤ faces) × (r ≡ false)
@@ -122,6 +124,9 @@ unfolding or_else
 or_accepted (Ok u) = refl
 or_accepted (Err e) = refl
 
+-- how a list of checks goes on
+pub ruleset in_order = (refuses, goes_on, or_accepted)
+
 -- the checks of shape, and one after them, as a list
 pub shape_first : (a b c : Bool) (x : Answer) → first_of (pass BadSize a ∷ pass WrongLength b ∷ pass OtherMesh c ∷ x ∷ []) ≡ or_else (shape a b c) x
 unfolding shape first_of or_else pass
@@ -144,3 +149,10 @@ unfolding shape first_of or_else pass
 shape_two false b = refl
 shape_two true false = refl
 shape_two true true = refl
+
+-- ---- a pass over items
+
+-- where the items below i are accepted, a refusal at i is that of the whole
+pub refused_at : (g : ℕ → Outcome) (n i : ℕ) (k : Reason) → first_refusal g i ≡ accepted → i < n → g i ≡ Err k → first_refusal g n ≡ refused k i
+unfolding first_refusal after
+refused_at g n i k none h e = le_ind (λ m. first_refusal g m ≡ refused k i) (rw (none, e)) (λ m l q. rw q) n h

@@ -6,7 +6,6 @@ use Rattle.vector.specs.Vector.{vector_at}
 use Rattle.vector.specs.declared.Vec3.{Vec3}
 use Rattle.mesh.specs.declared.Face.{Face}
 use Rattle.mesh.specs.declared.Cell.{Cell}
-use Rattle.mesh.specs.declared.Link.{Link}
 use Rattle.mesh.specs.declared.Condition.{Condition}
 use Rattle.mesh.specs.declared.Condition.TheVariants.{Absent, Fixed, ZeroGradient}
 
@@ -32,7 +31,6 @@ face_normal geometry f = vector_at geometry (9 * f + 6)
 abbrev pub face_at : List ℕ → List Float → ℕ → Face
 face_at adjacency geometry f = record {
   owner = owner_at adjacency f;
-  neighbour = neighbour_at adjacency f;
   center = face_centre geometry f;
   area = face_area geometry f;
   normal = face_normal geometry f;
@@ -79,6 +77,3 @@ condition_of code value = cond (eqb code 1) (Fixed value) (cond (eqb code 2) Zer
 
 abbrev pub condition_at : List ℕ → List Float → ℕ → Condition
 condition_at codes values f = condition_of (code_at codes f) (fixed_at values f)
-
-abbrev pub link_at : List ℕ → List Float → ℕ → Link
-link_at codes values f = record { peer = peer_at codes f; translation = translation_at values f }

@@ -6,8 +6,7 @@ ghost use Rattle.std.specs.Prelude.{◌≡◌, ◌*◌, eqb, length, replicate};
 ghost use Rattle.binary64.specs.Numbers.{zero64};
 ghost use Rattle.mesh.specs.Answers.{pass, at, shape};
 ghost use Rattle.mesh.specs.Records.{condition_of};
-ghost use Rattle.mesh.specs.Checks.{sizes_ok, lowest_bad_face, lowest_unknown_code, lowest_bad_link};
-ghost use Rattle.mesh.specs.Mesh.{links};
+ghost use Rattle.mesh.specs.Checks.{sizes_ok, lowest_unknown_code};
 
 use refusal::{Reason, Refusal};
 use vector::Vec3;
@@ -16,7 +15,7 @@ pub mod inner;
 mod lent;
 mod test;
 
-pub use lent::{Bounds, Conditions, Field, Mesh};
+pub use lent::{Bounds, Conditions, Faces, Field, Grid, Mesh};
 
 // The most that a mesh may have of cells, of faces or of records of a chain.
 pub const LARGEST_COUNT: usize = 65535;
@@ -34,11 +33,10 @@ pub struct Counts {
     pub borderings: usize,
 }
 
-// A face. The neighbour is a cell + 1, or 0 where there is none; `area` is the area vector.
+// A face. `area` is the area vector.
 #[derive(Clone, Copy)]
 pub struct Face {
     pub owner: usize,
-    pub neighbour: usize,
     pub center: Vec3,
     pub area: Vec3,
     pub normal: Vec3,
@@ -58,27 +56,22 @@ pub enum Condition {
     ZeroGradient,
 }
 
-// A face's link: the peer is a face + 1, or 0 where there is no link.
-#[derive(Clone, Copy)]
-pub struct Link {
-    pub peer: usize,
-    pub translation: Vec3,
-}
-
 // An entry's answer.
 pub type Answer = Result<(), Refusal>;
 
 // What a face or a cell is given.
 pub type Outcome = Result<f64, Reason>;
 
-// The condition that a code and its value stand for.
-pub fn condition_of(code: usize, value: f64) -> Condition
-    ensures { result ≡ condition_of code value }
-{
-    match code {
-        1 => Condition::Fixed(value),
-        2 => Condition::ZeroGradient,
-        _ => Condition::Absent,
+impl Condition {
+    // What a code and its value stand for: two numbers, so that this is a constructor and no `From`.
+    pub fn of(code: usize, value: f64) -> Condition
+        ensures { result ≡ condition_of code value }
+    {
+        match code {
+            1 => Condition::Fixed(value),
+            2 => Condition::ZeroGradient,
+            _ => Condition::Absent,
+        }
     }
 }
 
@@ -98,17 +91,7 @@ pub fn sizes_ok(counts: Counts) -> bool
 pub fn is_sized(len: usize, width: usize, count: usize) -> bool
     ensures { result ≡ eqb len (width * count) }
 {
-    if width == 0 {
-        return len == 0;
-    }
-    (len / width == count) & (len % width == 0)
-}
-
-// Check 4, of the cells that a face names: the lowest face that meets it.
-pub fn lowest_bad_face(cells: usize, adjacency: &[usize]) -> Option<usize>
-    ensures { result ≡ lowest_bad_face cells adjacency.now }
-{
-    chain::lowest(adjacency.len() / 2, |f| test::is_bad(cells, adjacency, f))
+    width.checked_mul(count) == Some(len)
 }
 
 // Check 4, of a face's condition code.
@@ -116,15 +99,6 @@ pub fn lowest_unknown_code(codes: &[usize]) -> Option<usize>
     ensures { result ≡ lowest_unknown_code codes.now }
 {
     chain::lowest(codes.len() / 2, |f| 2 < codes[2 * f])
-}
-
-// Check 6: the lowest face with a link that meets it.
-pub fn lowest_bad_link(adjacency: &[usize], codes: &[usize]) -> Option<usize>
-    ensures { result ≡ lowest_bad_link adjacency.now codes.now }
-{
-    chain::lowest(codes.len() / 2, |f| {
-        test::is_badly_linked(adjacency, codes, f)
-    })
 }
 
 // A test that has to pass.
@@ -147,7 +121,7 @@ pub fn at(reason: Reason, found: Option<usize>) -> Answer
 }
 
 // The checks of shape: of the counts, of the lengths, of the mesh numbers.
-#[tactic(auto, using(crate::proofs::Facts::refuses, crate::proofs::Facts::goes_on, crate::proofs::Facts::or_accepted), unfolding(crate::specs::Answers::first_of, crate::specs::Answers::shape))]
+#[tactic(auto, using(crate::proofs::Facts::in_order), unfolding(crate::specs::Answers::first_of, crate::specs::Answers::shape))]
 pub fn shape(counts: bool, lengths: bool, numbers: bool) -> Answer
     ensures { result ≡ shape counts lengths numbers }
 {
@@ -161,17 +135,4 @@ pub fn clear(out: &mut [f64])
     ensures { out.new ≡ replicate (length out.old) zero64 }
 {
     out.fill(0.0)
-}
-
-// The checks 4 and 6 of the adjacency with conditions and links.
-#[tactic(auto, using(crate::proofs::Facts::refuses, crate::proofs::Facts::goes_on, crate::proofs::Facts::or_accepted), unfolding(crate::specs::Answers::first_of, crate::specs::Mesh::links))]
-pub fn check_links(cells: usize, adjacency: &[usize], codes: &[usize]) -> Answer
-    ensures { result ≡ links cells adjacency.now codes.now }
-{
-    let face = chain::lower_of(
-        lowest_bad_face(cells, adjacency),
-        lowest_unknown_code(codes),
-    );
-    at(Reason::BadFace, face)?;
-    at(Reason::BadLink, lowest_bad_link(adjacency, codes))
 }

@@ -1,3 +1,4 @@
 pub mod Slices
 pub mod Gradient
 pub mod Outflow
+pub mod Bundles

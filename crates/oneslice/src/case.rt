@@ -3,11 +3,13 @@
 // above cell 0, faces 5 and 6 below and above cell 1. Faces 3 and 6 have a fixed value, faces 4 and 5 zero
 // gradient.
 use crate::change::Part;
-use mesh::{Answer, Counts};
+use mesh::{Answer, Conditions, Counts, Faces, Field};
+use simple::Corrections;
 use std::alloc::{AllocError, Global};
 
 // The mesh and the slices, each with its mesh number beside it. The flux is the predicted flux before the
-// call, and the corrected flux after it.
+// call, and the corrected flux after it; it is a `Vec`, since it has another length in some case, and the others
+// are arrays.
 #[derive(Drop)]
 pub struct Case {
     pub counts: Counts,
@@ -61,16 +63,29 @@ pub(crate) fn base(alloc: Global) -> Result<Case, AllocError> {
 
 impl Case {
     pub(crate) fn call(&mut self) -> Answer {
+        let faces = Faces {
+            counts: self.counts,
+            adjacency: &self.adjacency,
+        };
+        let conditions = Conditions {
+            number: self.conditions,
+            codes: &self.codes,
+            values: &VALUES,
+        };
+        let fields = Corrections {
+            coefficients: Field {
+                number: self.coefficient,
+                values: &self.coefficients,
+            },
+            correction: Field {
+                number: self.correction,
+                values: &self.corrections,
+            },
+        };
         simple::correct_face_flux_in_place(
-            self.counts,
-            &self.adjacency,
-            self.conditions,
-            &self.codes,
-            &VALUES,
-            self.coefficient,
-            &self.coefficients,
-            self.correction,
-            &self.corrections,
+            &faces,
+            &conditions,
+            &fields,
             self.prediction,
             &mut self.flux,
         )

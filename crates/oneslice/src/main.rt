@@ -12,7 +12,8 @@ mod case;
 mod cases;
 mod change;
 
-// What a call answered, and what the slice holds after it.
+// What a call answered, and what the slice holds after it, refused or not. `limits` writes the answer alone,
+// and `edges` what a refusal left: each program says in a few lines what it prints.
 #[derive(Clone, Copy)]
 struct Told<'a> {
     answer: Answer,

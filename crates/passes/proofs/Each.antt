@@ -10,7 +10,7 @@ use Rattle.std.proofs.Common.{Ok, Err}
 use Rattle.refusal.specs.declared.Reason.{Reason}
 use Rattle.mesh.specs.Answers.{Outcome, accepted, refused as refused_for}
 use Rattle.mesh.specs.Pass.{after, first_refusal, value_of, list_of, values_of}
-use Rattle.mesh.proofs.Items.{refused_at}
+use Rattle.mesh.proofs.Facts.{refused_at}
 use Rattle.passes.specs.Staged.{Passes}
 
 module _ (g : ℕ → Outcome) where

@@ -1,3 +1,2 @@
-pub mod Completed
 pub mod Stages
 pub mod Each

@@ -1,6 +1,6 @@
 -- A pass over items with two sequences of refusals, as a loop makes it: what holds at the loop's head, and how a turn, the end and a refusal go on from there. Assumes nothing.
 use Rattle.std.specs.Prelude.{Ok, Err}
-use mathlib.Core.Path.{◌≡◌, refl, sym, ap, ◌∙◌}
+use mathlib.Core.Path.{◌≡◌, refl, sym, ◌∙◌}
 use mathlib.Core.List.{List}
 use Prim.Native.Nat.{ℕ, ◌+◌, ◌<◌, ◌≤◌, zero-le}
 use native.Mathlib.Omega.{arith}
@@ -13,8 +13,8 @@ use Rattle.refusal.specs.declared.Reason.{Reason}
 use Rattle.refusal.specs.declared.Refusal.{Refusal}
 use Rattle.mesh.specs.Answers.{or_else, Answer, Outcome, accepted, refused}
 use Rattle.mesh.specs.Pass.{after, first_refusal, value_of, list_of, values_of, handed_out}
-use Rattle.mesh.proofs.Items.{refused_at}
-use Rattle.passes.specs.Staged.{Passes, two_refusals, staged, stored_at}
+use Rattle.mesh.proofs.Facts.{refused_at}
+use Rattle.passes.specs.Staged.{two_refusals, staged, stored_at}
 
 -- what is handed out, where an accepted pass leaves its list
 pub handed : (a : Answer) (m n : ℕ) (l new : List Float) → m ≡ n → (a ≡ accepted → new ≡ l) → handed_out a m new ≡ handed_out a n l
@@ -29,10 +29,6 @@ never_accepted e h = let z : ◌≡◌ {A = ℕ} 0 1 = cc in absurd (omega arith
 pub handed_out_lem : (a : Answer) (n : ℕ) (l : List Float) → a ≡ accepted → handed_out a n l ≡ l
 unfolding handed_out
 handed_out_lem a n l e = rw e
-
--- what a pass that answers a, and leaves `new`, hands out once it is settled
-pub settled : (a : Answer) (l : List Float) (n : ℕ) (b r : Answer) (new out : List Float) → Passes a l b new → length new ≡ n → r ≡ b → out ≡ handed_out b (length new) new → (r ≡ a) × (out ≡ handed_out r n l)
-settled a l n b r new out p e s o = (s ∙ p.0, rw s (o ∙ handed b (length new) n l new e p.1))
 
 -- an item that does not refuse in the first sequence, and what it comes to in the second
 goes_late : (a b c : Outcome) → staged a b ≡ Ok c → (after accepted a 0 ≡ accepted) × (b ≡ c)
@@ -137,8 +133,3 @@ module _ (g : ℕ → Outcome) (n room : ℕ) where
             let m : i < length l = omega (arith, p.size, e, lt) in
             rw (add-one, take-suc-set l i v m, p.done e, eg);
       }
-
-  pub filled : (l : List Float) (i : ℕ) → i ≡ n → Stores g n room l i → room ≡ n → l ≡ values_of g n
-  filled l i e p r =
-      let m : length l ≤ n = omega (arith, p.size, r) in
-      sym (take_all n l m) ∙ ap (λ (k : ℕ). take k l) (sym e) ∙ p.done r ∙ ap (values_of g) e

@@ -14,7 +14,8 @@ use refusal::Reason;
 // What a face comes to: refused in the first sequence, or what the second makes of it.
 pub type Stage = Result<Outcome, Reason>;
 
-// Of a face that refuses in the first sequence alone.
+// Of a face that refuses in the first sequence alone. `early` and `late` say which of the two an `Outcome` stands
+// in; a `From` could say one of them alone.
 #[tactic(auto, unfolding(crate::specs::Staged::staged))]
 pub fn early(o: Outcome) -> Stage
     ensures { result ≡ staged o o }
@@ -38,10 +39,7 @@ pub fn fill<F: Fn(usize, f64) -> Outcome>(out: &mut [f64], item: F) -> Answer
         Passes (first_refusal g n) (values_of g n) result out.new }
 {
     for (i, x) in out.iter_mut().enumerate() {
-        match item(i, *x) {
-            Ok(v) => *x = v,
-            Err(reason) => return Err(reason.at(i)),
-        }
+        *x = item(i, *x).map_err(|reason| reason.at(i))?;
     }
     Ok(())
 }

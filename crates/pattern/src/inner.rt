@@ -4,7 +4,7 @@ ghost use Rattle.pattern.specs.Text.{Spells};
 
 use crate::word::Word;
 
-// The number whose 16 hex digits are the text.
+// The number whose 16 hex digits are the text. std's `from_str_radix` takes capitals, a sign and fewer digits too.
 pub fn hex(text: &[u8]) -> Option<u64>
     ensures { Spells text.now result }
 {

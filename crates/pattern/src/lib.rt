@@ -27,6 +27,16 @@ pub fn value(bits: u64) -> f64
     f64::from_bits(bits)
 }
 
+// The word of each number of an output before a call; as a float it is no NaN.
+pub const FILL: usize = 0xa5a5_a5a5_a5a5_a5a5;
+
+// The float of that word.
+pub fn fill() -> f64
+    ensures { result ≡ of_bits binary64 FILL }
+{
+    value(FILL as u64)
+}
+
 // Whether a pattern is x's. Each NaN's pattern is every NaN's.
 pub fn is_of(bits: u64, x: f64) -> bool
     ensures { (result ≡ true) ↔ (x ≡ of_bits binary64 bits) }

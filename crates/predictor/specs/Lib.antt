@@ -1,3 +1,4 @@
 pub mod Coefficients
 pub mod Boundary
 pub mod Prediction
+pub mod Bundles

@@ -17,7 +17,7 @@ use Rattle.numerics.specs.Gradient.{gradients}
 use Rattle.coupling.specs.Face.{distances, side, predicted_flux}
 use Rattle.coupling.specs.declared.Side.{Side}
 use Rattle.predictor.specs.Coefficients.{internal_at}
-use Rattle.coupling.specs.Grid.{Grid, Field, field_lent, Coupled, own_cell, other_cell, span, grid_sized}
+use Rattle.coupling.specs.Grid.{Grid, Field, field_lent, own_cell, other_cell, span, grid_sized}
 use Rattle.passes.specs.Staged.{two_refusals}
 
 -- what a flux is predicted from: of the cells the velocity, the pressure, its gradient and the response
@@ -29,10 +29,6 @@ pub record Flow : Type 0 where
 
 abbrev pub flow : List Float → List Float → List Float → List Float → Flow
 flow v p g r = record { velocity = v; pressure = p; gradient = g; responses = r }
-
--- from the slices as a clause names them, at the call
-abbrev pub flow_lent : Slice Float → Slice Float → Slice Float → Slice Float → Flow
-flow_lent v p g r = flow v.entry.now p.entry.now g.entry.now r.entry.now
 
 abbrev pub side_at : Flow → ℕ → Side
 side_at q c = side (vector_at q.velocity (3 * c)) (vector_at q.gradient (3 * c)) (get_or q.pressure c nan) (get_or q.responses c nan)
@@ -129,10 +125,3 @@ pub record PredictionCall (n : Counts) (m : Grid) (stencil records : ℕ) (s : S
   pub out :
       new ≡ if_refused (prediction_checks n m stencil records s l (length oldSlopes) (length old)) old
       (handed_out r n.faces (predicted_fluxes m (flow_of n records s l) l.walls.values))
-
--- what the checks establish of a flow on so many faces
-pub record Flowing (m : Grid) (q : Flow) (faces : ℕ) : Type 0 where
-  pub coupled : Coupled m (length q.pressure) faces
-  pub velocity : length q.velocity ≡ 3 * length q.pressure
-  pub gradient : length q.gradient ≡ 3 * length q.pressure
-  pub responses : length q.responses ≡ length q.pressure

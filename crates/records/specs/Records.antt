@@ -30,6 +30,14 @@ Regrouped = (h : ℕ → Vec3) (n : ℕ) → vectors (vectors_of h n) ≡ record
 -- ---- the entry
 
 -- the answer, and what the output holds after the call: untouched where a check refuses, else the records of the number form
-pub record RecordsCall (n : Counts) (stencil records : ℕ) (s : Slices) (number : ℕ) (field : List Float) (old : List Vec3) (r : Answer) (new : List Vec3) : Type 0 where
+pub record RecordsCall
+    (n : Counts)
+    (stencil records : ℕ)
+    (s : Slices)
+    (number : ℕ)
+    (field : List Float)
+    (old : List Vec3)
+    (r : Answer)
+    (new : List Vec3) : Type 0 where
   pub answer : r ≡ gradient_checks n stencil records s number field (3 * length old)
   pub out : new ≡ if_refused r old (vectors (gradients s records field n.cells))

@@ -24,7 +24,7 @@ pub enum Reason {
     BadVolume,
 }
 
-// The reason, and the face or the cell; 0 where it names none.
+// The reason, and the face or the cell; 0 where it names none, as the C interface hands it out.
 #[derive(Clone, Copy, Debug, PartialEq, Eq)]
 pub struct Refusal {
     pub reason: Reason,

@@ -16,7 +16,7 @@ pub enum Block<'a> {
 }
 
 impl<'a> Block<'a> {
-    // The block of a kind that has these words.
+    // The block of a kind that has these words. A word of the list becomes a variant here, and nowhere else.
     fn of(kind: usize, mut words: Words<'a>) -> Result<Block<'a>, Broken> {
         match kind {
             1 => {

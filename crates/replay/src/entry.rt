@@ -1,4 +1,4 @@
-// The entries that a list has calls of.
+// The entries that a list has calls of: a kind of its blocks each.
 use std::fmt;
 
 // An entry's number is the kind of the blocks that have its calls.

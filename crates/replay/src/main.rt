@@ -90,7 +90,7 @@ fn run(rt: &(impl Input + Print + AllocGlobal)) -> Result<Tally, Fault> {
 
 fn main(rt: HostRuntime) -> io::Result<()> {
     match run(&rt) {
-        Ok(tally) => tally.print(&rt),
+        Ok(tally) => print!(rt; "{tally}"),
         Err(Fault::Io(error)) => Err(error),
         Err(Fault::Memory(error)) => Err(error.into()),
         Err(fault) => println!(rt; "{fault}"),

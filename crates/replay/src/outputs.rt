@@ -3,13 +3,13 @@ use crate::fault::{Broken, Fault};
 use crate::words::Words;
 use mesh::Answer;
 use pattern::word::Word;
+use pattern::{FILL, fill};
+use refusal::Refusal;
 use std::alloc::Global;
 
-// The longest output of a call.
+// The longest output of a call. Of the outputs of a refused call a list has the lengths alone, and a wrong one
+// must not take memory without bound.
 pub const LONGEST: usize = 1024;
-
-// What outputs hold before a call; as a float it is no NaN.
-const FILL: usize = 0xa5a5_a5a5_a5a5_a5a5;
 
 // What the outputs of a refused call hold.
 #[derive(Clone, Copy)]
@@ -18,16 +18,16 @@ enum Left {
     Zeros,
 }
 
-// The list's answer; a refusal by its number, which may be no reason's.
+// A refusal of the list, by its number, which may be no reason's.
 #[derive(Clone, Copy)]
-enum Verdict {
-    Accepted,
-    Refused {
-        number: u64,
-        index: usize,
-        left: Left,
-    },
+struct Refused {
+    number: u64,
+    index: usize,
+    left: Left,
 }
+
+// The list's answer.
+type Verdict = Result<(), Refused>;
 
 // The last words of a call: its answer, and of the outputs that are still to be read the lengths and the
 // words listed.
@@ -46,29 +46,18 @@ pub struct Output<'a, T: Word> {
     rest: usize,
 }
 
-// What a float of an output holds before a call.
-pub fn fill() -> f64 {
-    pattern::value(FILL as u64)
-}
-
-impl Left {
-    fn word(self) -> usize {
-        match self {
+impl From<Left> for usize {
+    fn from(left: Left) -> usize {
+        match left {
             Left::Untouched => FILL,
             Left::Zeros => 0,
         }
     }
 }
 
-impl Verdict {
-    fn is_right(self, answer: Answer) -> bool {
-        match (self, answer) {
-            (Verdict::Accepted, Ok(())) => true,
-            (Verdict::Refused { number, index, .. }, Err(refusal)) => {
-                u64::from(refusal.reason) == number && refusal.index == index
-            }
-            _ => false,
-        }
+impl Refused {
+    fn is_of(self, refusal: Refusal) -> bool {
+        u64::from(refusal.reason) == self.number && refusal.index == self.index
     }
 }
 
@@ -84,16 +73,16 @@ impl<'a> Words<'a> {
         let held = self.number()?;
         let index = self.number()?;
         let left = match held {
-            0 if number == 0 => return Ok(Verdict::Accepted),
+            0 if number == 0 => return Ok(Ok(())),
             1 if number != 0 => Left::Untouched,
             2 if number != 0 => Left::Zeros,
             _ => return Err(self.broken()),
         };
-        Ok(Verdict::Refused {
+        Ok(Err(Refused {
             number,
             index,
             left,
-        })
+        }))
     }
 
     // What the words that are left say of so many outputs.
@@ -110,14 +99,14 @@ impl<'a> Words<'a> {
 
 impl<'a> Outputs<'a> {
     // The next output, each of its numbers `fill`.
-    fn output<T: Word>(&mut self, alloc: Global, fill: T) -> Result<Output<'a, T>, Fault> {
+    pub fn output<T: Word>(&mut self, alloc: Global, fill: T) -> Result<Output<'a, T>, Fault> {
         let n = self.lengths.number()?;
         if n > LONGEST {
             return Err(Fault::Broken(self.listed.broken()));
         }
         let (listed, rest) = match self.verdict {
-            Verdict::Accepted => (n, 0),
-            Verdict::Refused { left, .. } => (0, left.word()),
+            Ok(()) => (n, 0),
+            Err(refused) => (0, usize::from(refused.left)),
         };
         Ok(Output {
             values: Vec::from_elem(alloc, fill, n)?,
@@ -126,19 +115,41 @@ impl<'a> Outputs<'a> {
         })
     }
 
-    // The next output, of whole numbers.
-    pub fn numbers(&mut self, alloc: Global) -> Result<Output<'a, usize>, Fault> {
-        self.output(alloc, FILL)
-    }
-
-    pub fn reals(&mut self, alloc: Global) -> Result<Output<'a, f64>, Fault> {
-        self.output(alloc, fill())
-    }
-
     // Whether the answer is right, after the last output was read.
     pub fn is_right(&self, answer: Answer) -> Result<bool, Broken> {
         self.lengths.end()?;
         self.listed.end()?;
-        Ok(self.verdict.is_right(answer))
+        Ok(match (self.verdict, answer) {
+            (Ok(()), Ok(())) => true,
+            (Err(refused), Err(refusal)) => refused.is_of(refusal),
+            _ => false,
+        })
+    }
+}
+
+impl<'a> Words<'a> {
+    // Makes a call with one output; whether the answer and the output are right.
+    pub fn one<F: FnOnce(&mut [f64]) -> Answer>(self, alloc: Global, call: F) -> Result<bool, Fault>
+        requires { F.IsAlwaysCallable call }
+    {
+        let mut outputs = self.outputs(1)?;
+        let mut out = outputs.output(alloc, fill())?;
+        let answer = call(&mut out.values);
+        Ok(outputs.is_right(answer)? && out.is_right())
+    }
+
+    // The same with two outputs.
+    pub fn two<F: FnOnce(&mut [f64], &mut [f64]) -> Answer>(
+        self,
+        alloc: Global,
+        call: F,
+    ) -> Result<bool, Fault>
+        requires { F.IsAlwaysCallable call }
+    {
+        let mut outputs = self.outputs(2)?;
+        let mut first = outputs.output(alloc, fill())?;
+        let mut second = outputs.output(alloc, fill())?;
+        let answer = call(&mut first.values, &mut second.values);
+        Ok(outputs.is_right(answer)? && first.is_right() && second.is_right())
     }
 }

@@ -3,7 +3,7 @@ use crate::entry::Entry;
 use crate::fault::Fault;
 use std::alloc::Global;
 use std::collections::BTreeMap;
-use std::{fmt, io};
+use std::fmt;
 
 // What is compared with the list.
 #[derive(Clone, Copy, PartialEq, Eq, PartialOrd, Ord)]
@@ -66,16 +66,22 @@ impl Tally {
         Ok(())
     }
 
-    fn print_line(&self, rt: &impl Print, subject: Subject) -> io::Result<()> {
+    fn write_line<W: fmt::Write>(
+        &self,
+        f: &mut fmt::Formatter<W>,
+        subject: Subject,
+    ) -> fmt::Result {
         let count = self.counts.get(&subject).copied().unwrap_or_default();
-        println!(rt; "{subject}: {count}")
+        writeln!(f, "{subject}: {count}")
     }
+}
 
-    // A line for each subject, counted or not.
-    pub fn print(&self, rt: &impl Print) -> io::Result<()> {
-        self.print_line(rt, Subject::Roots)?;
+// A line for each subject, counted or not.
+impl fmt::Display for Tally {
+    fn fmt<W: fmt::Write>(&self, f: &mut fmt::Formatter<W>) -> fmt::Result {
+        self.write_line(f, Subject::Roots)?;
         for entry in Entry::ALL {
-            self.print_line(rt, Subject::Calls(entry))?;
+            self.write_line(f, Subject::Calls(entry))?;
         }
         Ok(())
     }

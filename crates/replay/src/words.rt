@@ -3,6 +3,7 @@ ghost use Rattle.std.specs.Prelude.{◌≡◌, ◌+◌, length, OnOk};
 
 use crate::fault::Broken;
 use mesh::{Conditions, Counts, Field, Mesh};
+use numerics::Stencil;
 
 // Words that are still to be read: the same stretch of the three slices of a list. `block` is the line
 // where their block starts.
@@ -12,17 +13,6 @@ pub struct Words<'a> {
     pub numbers: &'a [usize],
     pub reals: &'a [f64],
     pub lines: &'a [u64],
-}
-
-// The slices of a stencil, how many equation records it has, and the number of its mesh.
-#[derive(Clone, Copy)]
-pub struct Stencil<'a> {
-    pub number: u64,
-    pub records: usize,
-    pub starts: &'a [usize],
-    pub equations: &'a [usize],
-    pub weights: &'a [f64],
-    pub inverses: &'a [f64],
 }
 
 impl<'a> Words<'a> {
@@ -70,21 +60,16 @@ impl<'a> Words<'a> {
         self.take(1)?.numbers.first().copied().ok_or(broken)
     }
 
-    // The next slice, which follows its length.
-    pub fn numbers(&mut self) -> Result<&'a [usize], Broken> {
+    // The words of the next slice, which follow its length.
+    pub fn slice(&mut self) -> Result<Words<'a>, Broken> {
         let n = self.number()?;
-        Ok(self.take(n)?.numbers)
-    }
-
-    pub fn reals(&mut self) -> Result<&'a [f64], Broken> {
-        let n = self.number()?;
-        Ok(self.take(n)?.reals)
+        self.take(n)
     }
 
     pub fn field(&mut self) -> Result<Field<'a>, Broken> {
         Ok(Field {
             number: self.number()? as u64,
-            values: self.reals()?,
+            values: self.slice()?.reals,
         })
     }
 
@@ -92,10 +77,10 @@ impl<'a> Words<'a> {
         Ok(Stencil {
             number: self.number()? as u64,
             records,
-            starts: self.numbers()?,
-            equations: self.numbers()?,
-            weights: self.reals()?,
-            inverses: self.reals()?,
+            starts: self.slice()?.numbers,
+            equations: self.slice()?.numbers,
+            weights: self.slice()?.reals,
+            inverses: self.slice()?.reals,
         })
     }
 
@@ -113,20 +98,20 @@ impl<'a> Words<'a> {
     pub fn mesh(&mut self) -> Result<Mesh<'a>, Broken> {
         Ok(Mesh {
             counts: self.counts()?,
-            adjacency: self.numbers()?,
-            geometry: self.reals()?,
-            heads: self.numbers()?,
-            places: self.reals()?,
-            facing: self.numbers()?,
-            bordering: self.numbers()?,
+            adjacency: self.slice()?.numbers,
+            geometry: self.slice()?.reals,
+            heads: self.slice()?.numbers,
+            places: self.slice()?.reals,
+            facing: self.slice()?.numbers,
+            bordering: self.slice()?.numbers,
         })
     }
 
     pub fn conditions(&mut self) -> Result<Conditions<'a>, Broken> {
         Ok(Conditions {
             number: self.number()? as u64,
-            codes: self.numbers()?,
-            values: self.reals()?,
+            codes: self.slice()?.numbers,
+            values: self.slice()?.reals,
         })
     }
 }

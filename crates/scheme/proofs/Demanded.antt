@@ -2,10 +2,9 @@
 use Rattle.std.specs.Prelude.{Option, None, Some}
 use mathlib.Core.Path.{◌≡◌, refl, sym, subst}
 use Prim.Native.Nat.{ℕ, ◌<◌}
-use native.Mathlib.Omega.{arith}
 use lib.Dec.{T}
 use lib.ListN.{length, get_or}
-use lib.Ieee.{Float, nan, binary64, fits}
+use lib.Ieee.{nan, binary64, fits}
 use lib.Ieee.Scale.{finite}
 use borrow.Author.Tests.{not-false}
 use Rattle.binary64.specs.Numbers.{is_finite}
@@ -13,7 +12,6 @@ use Rattle.mesh.specs.Answers.{first_of, accepted}
 use Rattle.chain.specs.Search.{lowest_where}
 use Rattle.mesh.proofs.Facts.{both_accepted}
 use Rattle.chain.proofs.Search.{none_below}
-use Rattle.mesh.proofs.Values.{value_at}
 use Rattle.mesh.specs.Mesh.{bounds_of}
 use Rattle.stencil.specs.Lent.{lent_of}
 use Rattle.numerics.specs.Outflow.{faces_of}
@@ -21,14 +19,13 @@ use Rattle.stencil.specs.Stencil.{stencil_answer}
 use Rattle.balance.proofs.Closes.{balances}
 use Rattle.balance.specs.Balance.{Balanced}
 use Rattle.predictor.specs.Boundary.{boundary_answer}
-use Rattle.corrector.specs.Correction.{corrected_flux_at, correction_answer}
+use Rattle.corrector.specs.Correction.{correction_answer}
 use Rattle.corrector.specs.Metrics.{metrics_of, metrics_answer}
 use Rattle.predictor.specs.Prediction.{prediction_answer}
 use Rattle.corrector.specs.Promise.{Boundary, Promise, boundary_of}
 use Rattle.corrector.proofs.Promised.{promised, carried}
-use Rattle.scheme.specs.Step.{Inputs, Lendable, grid_of, flow_of, predicted_of, correcting_of, fluxes_of, outflows_of, spilled, endless, finite_answer, work_answer}
+use Rattle.scheme.specs.Step.{Inputs, Lendable, grid_of, flow_of, correcting_of, fluxes_of, outflows_of, spilled, endless, finite_answer, work_answer}
 use Rattle.scheme.specs.Demand.{walls_of, DemandThree}
-use Rattle.scheme.proofs.Fitting.{value_fits}
 use Rattle.scheme.proofs.Parts.{predicted_size, fluxes_size, outflows_size, wall_kept, below, correctable, flows}
 
 nothing_spilled : (f : Option ℕ) → spilled f ≡ accepted → f ≡ None
@@ -43,7 +40,8 @@ module _ (d : Inputs) (ready : Lendable d) where
   abbrev cells : ℕ
   cells = d.mesh.counts.cells
 
-  module _ (fit : (f : ℕ) → f < length d.walls.values → T (fits binary64 (get_or d.walls.values f nan))) (ok : work_answer d ≡ accepted) where
+  -- every flux is a number of binary64, as the slice that holds it says
+  module _ (fit : (f : ℕ) → f < length (fluxes_of d) → T (fits binary64 (get_or (fluxes_of d) f nan))) (ok : work_answer d ≡ accepted) where
     corrected_ok : correction_answer (correcting_of d) ≡ accepted
     unfolding work_answer first_of
     corrected_ok =
@@ -67,14 +65,6 @@ module _ (d : Inputs) (ready : Lendable d) where
         let e = none_below (endless (outflows_of d)) (length (outflows_of d)) c (nothing_spilled (lowest_where (endless (outflows_of d)) (length (outflows_of d))) finite_ok) l in
         subst T (sym (not-false (is_finite (get_or (outflows_of d) c nan)) e)) tt
 
-    -- every flux is a value of binary64
-    fluxes_fit : (f : ℕ) → f < length (fluxes_of d) → T (fits binary64 (get_or (fluxes_of d) f nan))
-    fluxes_fit f l =
-        let h : f < length (predicted_of d) = omega (arith, l, fluxes_size d ready, predicted_size d ready) in
-        let w = value_at (corrected_flux_at (correcting_of d)) (length (predicted_of d)) f corrected_ok h in
-        subst (λ (x : Float). T (fits binary64 x)) (sym w.2)
-        (value_fits (correcting_of d) f w.0 (λ e. subst (λ (x : Float). T (fits binary64 x)) (sym (wall_kept d ready f (below d ready f h) e)) (fit f (omega (arith, below d ready f h, ready.walls)))) w.1)
-
     kept : Promise (walls_of d) (fluxes_of d)
     kept =
         subst (λ (n : ℕ). Promise (sized n) (fluxes_of d)) (predicted_size d ready)
@@ -88,6 +78,6 @@ module _ (d : Inputs) (ready : Lendable d) where
       fluxes = fluxes_size d ready;
       outflows = outflows_size d ready;
       finite_outflows = finite_outflows;
-      balanced = subst (λ (n : ℕ). Balanced (faces_of d.mesh.adjacency (fluxes_of d)) n (outflows_of d)) (fluxes_size d ready) (balances cells d.mesh.adjacency (fluxes_of d) (flows d ready) fluxes_fit finite_outflows);
+      balanced = subst (λ (n : ℕ). Balanced (faces_of d.mesh.adjacency (fluxes_of d)) n (outflows_of d)) (fluxes_size d ready) (balances cells d.mesh.adjacency (fluxes_of d) (flows d ready) fit finite_outflows);
       kept = kept;
     }

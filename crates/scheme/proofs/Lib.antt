@@ -1,5 +1,4 @@
 -- What the parts of the step ask for, and what an accepted step promises.
-pub mod Fitting
 pub mod Parts
 pub mod Demanded
 pub mod Exemplified

@@ -6,8 +6,7 @@ use Prim.Native.Nat.{ℕ, ◌*◌, ◌<◌}
 use native.Mathlib.Omega.{arith}
 use lib.ListN.{length, get_or, replicate, length-replicate}
 use lib.Ieee.{Float, nan}
-use Rattle.refusal.specs.declared.Refusal.{Refusal}
-use Rattle.mesh.specs.Answers.{or_else, first_of, Answer, accepted, refused}
+use Rattle.mesh.specs.Answers.{or_else, first_of, Answer, accepted}
 use Rattle.mesh.specs.Pass.{value_of}
 use Rattle.mesh.specs.Mesh.{bounds_of}
 use Rattle.mesh.specs.Records.{neighbour_at}
@@ -19,27 +18,15 @@ use Rattle.stencil.specs.Lent.{Lent, lent_of, Buildable}
 use Rattle.numerics.specs.Outflow.{Flows, outflows}
 use Rattle.numerics.proofs.Scatter.{length-scatter}
 use Rattle.binary64.specs.Numbers.{zero64}
-use Rattle.stencil.specs.Stencil.{stencil_answer, stencil_slices}
+use Rattle.stencil.specs.Stencil.{SlicesSized, stencil_answer, stencil_slices}
 use Rattle.stencil.proofs.inner.build.Sound.{accepted_sound}
-use Rattle.predictor.specs.Boundary.{Bounded, Begun, boundary_answer, boundary_coefficients, coefficient_at}
-use Rattle.corrector.specs.Correction.{Correcting, correcting, Correctable, corrected_flux_at, correction_answer, corrected_fluxes}
+use Rattle.predictor.specs.Boundary.{Begun, boundary_answer, coefficient_at}
+use Rattle.corrector.specs.Correction.{Correcting, correcting, Correctable, corrected_flux_at, correction_answer}
 use Rattle.predictor.specs.Coefficients.{coefficient_answer, coefficients}
-use Rattle.coupling.specs.Grid.{Grid, Coupled}
+use Rattle.coupling.specs.Grid.{Grid}
 use Rattle.corrector.specs.Metrics.{metrics_of, metrics_answer}
-use Rattle.predictor.specs.Prediction.{Flow, flow, Flowing, predicted_at, prediction_answer, predicted_fluxes}
+use Rattle.predictor.specs.Prediction.{Flow, predicted_at, prediction_answer}
 use Rattle.scheme.specs.Step.{Inputs, Lendable, grid_of, stencil_of, gradient_of, flow_of, predicted_of, coefficients_of, correcting_of, fluxes_of, outflows_of, finite_answer, work_answer}
-
--- a correction asks nothing of the coefficients but how many they are
-pub with_coefficients : (a c : List ℕ) (v p k l x : List Float) → length l ≡ length k → Correctable (correcting a c v p k x) → Correctable (correcting a c v p l x)
-with_coefficients a c v p k l x e m = record {
-  adjacency = m.adjacency;
-  codes = m.codes;
-  values = m.values;
-  coefficients = e ∙ m.coefficients;
-  sides = m.sides;
-  peers = m.peers;
-  links = m.links;
-}
 
 -- after an accepted prediction the coefficients of the faces with two cells are there
 pub begun : (m : Grid) (q : Flow) (walls l : List Float) → prediction_answer m q walls ≡ accepted → length l ≡ length walls → l ≡ coefficients m q.responses (length walls) → Begun m q.responses l
@@ -61,8 +48,8 @@ sloped l records s p good ok is ls le lw li lp = record {
 
 -- ---- the answers
 
--- the six answers, two of each part
-pub regrouped : (a b c e f g : Answer) → first_of (a ∷ b ∷ c ∷ e ∷ f ∷ g ∷ []) ≡ or_else (or_else a b) (or_else (or_else c e) (or_else f g))
+-- the six answers, the last four two by two
+pub regrouped : (a b c e f g : Answer) → first_of (a ∷ b ∷ c ∷ e ∷ f ∷ g ∷ []) ≡ or_else a (or_else b (or_else (or_else c e) (or_else f g)))
 unfolding first_of or_else
 regrouped (Err x) b c e f g = refl
 regrouped (Ok u0) (Err x) c e f g = refl
@@ -120,69 +107,31 @@ module _ (d : Inputs) (ready : Lendable d) where
   pub lent-stencil : Buildable (lent_of d.mesh d.conditions)
   lent-stencil = record { sized = ready.good.sized; codes = ready.good.codes; values = ready.good.values; sound = ready.good.sound }
 
-  pub coupled : (c f : ℕ) → c ≡ cells → f ≡ faces → Coupled (grid_of d) c f
-  coupled c f ec ef = record {
-    adjacency = omega (arith, ready.good.sized.adjacency, ef);
-    geometry = omega (arith, ready.good.sized.geometry, ef);
-    places = omega (arith, ready.good.sized.places, ec);
-    sides = λ i l. rw ec (ready.good.sound.faces i (omega (arith, l, ef)));
-  }
+  -- the stencil that was accepted, in slices s, serves for the gradient of the pressure
+  pub slope_by : (s : Slices) (records : ℕ) → stencil_answer (lent_of d.mesh d.conditions) d.records ≡ accepted → s ≡ stencil_of d → records ≡ d.records
+      → SlicesSized (lent_of d.mesh d.conditions) d.records s → Sloped s records d.pressure.values
+  slope_by s records ok is e z =
+      rw e (sloped (lent_of d.mesh d.conditions) d.records s d.pressure.values lent-stencil ok is z.starts z.equations z.weights z.inverses ready.pressure)
 
-  pub bounded : (f : ℕ) → f ≡ faces → Bounded (bounds_of d.conditions) f
-  bounded f e = record {
-    codes = omega (arith, ready.good.codes, e);
-    values = omega (arith, ready.good.values, e);
-    peers = λ i l. rw e (peer_below d.mesh.adjacency d.conditions.codes faces i ready.good.codes (ready.good.sound.links i (omega (arith, l, e))));
-  }
+  -- what the parts say, by what they are lent, is what the step says
+  pub gradient_by : (s : Slices) (records n : ℕ) → s ≡ stencil_of d → records ≡ d.records → n ≡ cells → gradients s records d.pressure.values n ≡ gradient_of d
+  gradient_by s records n es er en = rw (es, er, en)
 
-  pub flowing : (g : List Float) → length g ≡ 3 * cells → Flowing (grid_of d) (flow d.velocity.values d.pressure.values g d.responses.values) (length d.walls.values)
-  flowing g e = record {
-    coupled = coupled (length d.pressure.values) (length d.walls.values) ready.pressure ready.walls;
-    velocity = omega (arith, ready.velocity, ready.pressure);
-    gradient = omega (arith, e, ready.pressure);
-    responses = ready.responses ∙ sym ready.pressure;
-  }
-
-  -- what the parts say, by the lengths of the slices, is what the step says
-  abbrev flow_by : ℕ → Flow
-  flow_by n = flow d.velocity.values d.pressure.values (gradients (stencil_of d) d.records d.pressure.values n) d.responses.values
-
-  pub gradient_is : gradients (stencil_of d) d.records d.pressure.values (length d.pressure.values) ≡ gradient_of d
-  gradient_is = ap (gradients (stencil_of d) d.records d.pressure.values) ready.pressure
-
-  pub predicted_is : predicted_fluxes (grid_of d) (flow_by (length d.pressure.values)) d.walls.values ≡ predicted_of d
-  predicted_is = ap (λ (n : ℕ). predicted_fluxes (grid_of d) (flow_by n) d.walls.values) ready.pressure
+  abbrev stencil_part : Answer
+  stencil_part = stencil_answer (lent_of d.mesh d.conditions) d.records
 
   abbrev prediction_part : Answer
-  prediction_part = or_else (stencil_answer (lent_of d.mesh d.conditions) d.records) (prediction_answer (grid_of d) (flow_of d) d.walls.values)
-
-  pub prediction_is : (r : Answer) → r ≡ or_else (stencil_answer (lent_of d.mesh d.conditions) d.records) (prediction_answer (grid_of d) (flow_by (length d.pressure.values)) d.walls.values) → r ≡ prediction_part
-  prediction_is r h = h ∙ ap (λ (n : ℕ). or_else (stencil_answer (lent_of d.mesh d.conditions) d.records) (prediction_answer (grid_of d) (flow_by n) d.walls.values)) ready.pressure
+  prediction_part = prediction_answer (grid_of d) (flow_of d) d.walls.values
 
   -- the correction, of predicted fluxes p and n coefficients
   abbrev correcting_by : List Float → List Float → Correcting
   correcting_by p k = correcting d.mesh.adjacency d.conditions.codes d.conditions.values p k d.correction.values
 
-  pub correctable_by : (p k : List Float) → p ≡ predicted_of d → length k ≡ faces → Correctable (correcting_by p k)
-  correctable_by p k ep ek =
-      subst (λ (q : List Float). Correctable (correcting_by q k)) (sym ep)
-      (with_coefficients d.mesh.adjacency d.conditions.codes d.conditions.values (predicted_of d) (coefficients_of d) k d.correction.values (ek ∙ sym coefficients_size) correctable)
-
-  abbrev coefficients_by : ℕ → List Float
-  coefficients_by n = boundary_coefficients (grid_of d) (bounds_of d.conditions) d.responses.values n
+  pub correcting_is : (p k : List Float) → p ≡ predicted_of d → k ≡ coefficients_of d → correcting_by p k ≡ correcting_of d
+  correcting_is p k ep ek = rw (ep, ek)
 
   abbrev correction_part : Answer
   correction_part = or_else (boundary_answer (grid_of d) (bounds_of d.conditions) d.responses.values faces) (correction_answer (correcting_of d))
-
-  pub correction_is : (p : List Float) (n : ℕ) (r : Answer) → p ≡ predicted_of d → n ≡ faces
-      → r ≡ or_else (boundary_answer (grid_of d) (bounds_of d.conditions) d.responses.values n) (correction_answer (correcting_by p (coefficients_by n))) → r ≡ correction_part
-  correction_is p n r ep en h = rw (ep, en) at h
-
-  pub coefficients_is : (n : ℕ) → n ≡ faces → coefficients_by n ≡ coefficients_of d
-  coefficients_is n en = ap coefficients_by en
-
-  pub fluxes_is : (p : List Float) (n : ℕ) → p ≡ predicted_of d → n ≡ faces → corrected_fluxes (correcting_by p (coefficients_by n)) ≡ fluxes_of d
-  fluxes_is p n ep en = ap (λ (q : List Float). corrected_fluxes (correcting_by q (coefficients_by n))) ep ∙ ap (λ (k : ℕ). corrected_fluxes (correcting_by (predicted_of d) (coefficients_by k))) en
 
   -- the outflows, of fluxes l and n cells
   pub flows_by : (l : List Float) (n : ℕ) → l ≡ fluxes_of d → n ≡ cells → Flows n d.mesh.adjacency l
@@ -194,22 +143,7 @@ module _ (d : Inputs) (ready : Lendable d) where
   abbrev measured_part : List Float → Answer
   measured_part o = or_else (metrics_answer (metrics_of d.mesh.places o)) (finite_answer o)
 
-  -- the answer of the step, by where it ends
-  abbrev answers : Answer
-  answers = or_else prediction_part (or_else correction_part (measured_part (outflows_of d)))
-
-  work_is : work_answer d ≡ answers
+  -- the answer of the step
+  pub work_is : work_answer d ≡ or_else stencil_part (or_else prediction_part (or_else correction_part (measured_part (outflows_of d))))
   unfolding work_answer
   work_is = regrouped _ _ _ _ _ _
-
-  pub ends_first : (r s : Answer) (e : Refusal) → r ≡ prediction_part → r ≡ Err e → s ≡ Err e → s ≡ work_answer d
-  unfolding or_else
-  ends_first r s x h e same = same ∙ sym (work_is ∙ rw (sym h ∙ e))
-
-  pub ends_second : (p r s : Answer) (e : Refusal) → p ≡ prediction_part → p ≡ accepted → r ≡ correction_part → r ≡ Err e → s ≡ Err e → s ≡ work_answer d
-  unfolding or_else
-  ends_second p r s x hp ep h e same = same ∙ sym (work_is ∙ rw (sym hp ∙ ep) (rw (sym h ∙ e)))
-
-  pub ends_last : (p c r : Answer) (o : List Float) → p ≡ prediction_part → p ≡ accepted → c ≡ correction_part → c ≡ accepted → o ≡ outflows_of d → r ≡ measured_part o → r ≡ work_answer d
-  unfolding or_else
-  ends_last p c r o hp ep hc ec eo h = sym (work_is ∙ rw (sym hp ∙ ep) (rw (sym hc ∙ ec) (sym (h ∙ ap measured_part eo))))

@@ -75,7 +75,7 @@ pub data Example : Type 0 where
   flux_is : ℕ → ℕ → ℕ → ℕ → ℕ → Example
   -- the same of an unlinked face with a fixed value
   fixed_is : ℕ → ℕ → ℕ → ℕ → ℕ → Example
-  -- with this coefficient a face with two cells is refused by 9, whatever else it has
+  -- with this coefficient a face with two cells is refused as BadCoefficient, whatever else it has
   coefficient_refused : ℕ → Example
   -- with this coefficient an unlinked zero-gradient face keeps its flux, whatever that is
   coefficient_unread : ℕ → Example

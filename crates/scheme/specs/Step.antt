@@ -5,7 +5,7 @@ use Rattle.std.specs.Float.{nan}
 use Rattle.binary64.specs.Numbers.{is_finite}
 use Rattle.mesh.specs.Answers.{first_of, Answer, accepted, refused}
 use Rattle.mesh.specs.Checks.{largest_count}
-use Rattle.mesh.specs.Mesh.{Mesh, Conditions, conditions, Good, bounds_of}
+use Rattle.mesh.specs.Mesh.{Mesh, Conditions, Good, bounds_of}
 use Rattle.chain.specs.Search.{lowest_where}
 use Rattle.numerics.specs.Slices.{Slices}
 use Rattle.stencil.specs.Lent.{lent_of}
@@ -14,7 +14,7 @@ use Rattle.numerics.specs.Outflow.{outflows}
 use Rattle.stencil.specs.Stencil.{stencil_answer, stencil_slices}
 use Rattle.predictor.specs.Boundary.{boundary_answer, boundary_coefficients}
 use Rattle.corrector.specs.Correction.{Correcting, correcting, correction_answer, corrected_fluxes}
-use Rattle.coupling.specs.Grid.{Grid, grid, Field, field}
+use Rattle.coupling.specs.Grid.{Grid, grid, Field}
 use Rattle.corrector.specs.Metrics.{metrics_of, metrics_answer}
 use Rattle.predictor.specs.Prediction.{Flow, flow, prediction_answer, predicted_fluxes}
 
@@ -32,12 +32,6 @@ pub record Inputs : Type 0 where
 abbrev pub inputs : Mesh → Conditions → ℕ → Field → Field → Field → Field → Field → Inputs
 inputs m k n v p r w x =
     record { mesh = m; conditions = k; records = n; velocity = v; pressure = p; responses = r; walls = w; correction = x }
-
--- conditions and fields that have the mesh's number
-abbrev pub alike : Mesh → List ℕ → List Float → ℕ → List Float → List Float → List Float → List Float → List Float → Inputs
-alike m codes values records v p r w x =
-    let n = m.counts.mesh in
-    inputs m (conditions n codes values) records (field n v) (field n p) (field n r) (field n w) (field n x)
 
 abbrev pub grid_of : Inputs → Grid
 grid_of d = grid d.mesh.adjacency d.mesh.geometry d.mesh.places
@@ -71,7 +65,7 @@ outflows_of d = outflows d.mesh.counts.cells d.mesh.adjacency (fluxes_of d)
 
 -- ---- the answer
 
--- 9 with index 0 where an outflow is not finite
+-- BadCoefficient with index 0 where an outflow is not finite
 unfoldable pub spilled : Option ℕ → Answer
 spilled None = accepted
 spilled (Some c) = refused BadCoefficient 0

@@ -9,7 +9,7 @@ use itoa::Buffer;
 use refusal::{Reason, Refusal};
 
 // The sentence of a refusal, at the start of `out` where there is room for all of it. The answer is its
-// length, 0 where the number is not in the table.
+// length, 0 where the number is not in the table: as the C interface has both.
 pub fn sentence(number: u64, index: usize, out: &mut [u8]) -> usize
     ensures call { SentenceCall number index out.old result out.new }
 {

@@ -1,20 +1,21 @@
 -- What the checks of each entry establish. Assumes nothing.
 use Rattle.refusal.specs.declared.Reason.TheVariants.{BadSize, WrongLength, BadFace, BrokenChain, BadLink}
-use Rattle.mesh.specs.Answers.{Answer, accepted}
-use mathlib.Core.Path.{◌≡◌, sym, ◌∙◌}
+use Rattle.mesh.specs.Answers.{Answer, shape, accepted}
+use Rattle.mesh.specs.Pass.{if_refused}
+use mathlib.Core.Path.{◌≡◌, refl, sym, ◌∙◌}
 use mathlib.Core.List.{List}
-use mathlib.Core.Bool.{true, ◌&&◌}
+use mathlib.Core.Bool.{Bool, true, ◌&&◌}
 use Prim.Native.Nat.{ℕ, ◌*◌, ◌≤◌}
 use native.Mathlib.Omega.{arith}
-use lib.Dec.{eqb}
+use lib.Dec.{eqb, leb}
 use lib.ListN.{length}
 use lib.Ieee.{Float}
 use borrow.Author.Tests.{eqb-true}
-use Rattle.mesh.specs.Checks.{largest_count, lowest_bad_face, lowest_unknown_code, lowest_bad_link}
+use Rattle.mesh.specs.Checks.{largest_count, sizes_ok, lowest_bad_face, lowest_unknown_code, lowest_bad_link}
 use Rattle.mesh.specs.Facts.{FacesIn, LinksIn}
 use Rattle.mesh.specs.Mesh.{Conditions, bounds_of, conditions_sized, links}
 use Rattle.mesh.specs.declared.Counts.{Counts}
-use Rattle.mesh.proofs.Facts.{all_accepted, passed, nothing_at, small, faces_in, links_in, peer_below}
+use Rattle.mesh.proofs.Facts.{all_accepted, shape_accepted, passed, nothing_at, small, faces_in, links_in, peer_below}
 use Rattle.chain.proofs.Search.{none_lower}
 use Rattle.chain.proofs.Truth.{and_true, every_at}
 use Rattle.numerics.specs.Slices.{Slices, lengths_of, stencil_sized}
@@ -24,13 +25,18 @@ use Rattle.numerics.proofs.Flows.{flows_by}
 use Rattle.numerics.proofs.Slopes.{slopes_by}
 use Rattle.predictor.specs.Boundary.{Bounded, boundary_checks}
 use Rattle.predictor.specs.Coefficients.{coefficient_checks}
-use Rattle.simple.specs.Corrected.{Fields, correction_sizes, correcting_by, correction_checks}
-use Rattle.corrector.specs.Correction.{Correctable}
+use Rattle.simple.specs.Corrected.{Fields, correction_sizes, correction_checks}
+use Rattle.corrector.specs.Correction.{CorrectableFaces}
 use Rattle.corrector.specs.Diagonal.{diagonal_checks}
 use Rattle.coupling.specs.Grid.{Grid, Field, Coupled, grid_sizes, grid_sized}
 use Rattle.corrector.specs.Metrics.{metrics_sizes, metrics_checks}
 use Rattle.predictor.specs.Prediction.{FlowFields, sizes_of, flow_sizes, flow_sized, prediction_checks}
 use Rattle.corrector.specs.Velocity.{velocity_sizes, velocity_checks}
+
+-- where the checks pass, a slice is what the work leaves
+pub if_accepted : (a : Answer) (old new : List Float) → a ≡ accepted → if_refused a old new ≡ new
+unfolding if_refused
+if_accepted a old new h = rw h
 
 -- ---- one cell's number
 
@@ -66,18 +72,17 @@ coupled n m h faces =
       sides = λ f l. faces f (omega (arith, a, l));
     }
 
--- by the lengths that are at hand
-coupled_by : (m : Grid) (cells faces c f : ℕ) → c ≡ cells → f ≡ faces → Coupled m cells faces → Coupled m c f
-coupled_by m cells faces c f ec ef g = rw (ec, ef) g
+-- by the length that is at hand
+coupled_by : (m : Grid) (cells faces c : ℕ) → c ≡ cells → Coupled m cells faces → Coupled m c faces
+coupled_by m cells faces c e g = rw e g
 
-pub coefficients_passed : (n : Counts) (m : Grid) (responses : Field) (outs : ℕ) → coefficient_checks n m responses outs ≡ accepted → Coupled m (length responses.values) outs × (outs ≡ n.faces)
+pub coefficients_passed : (n : Counts) (m : Grid) (responses : Field) (outs : ℕ) → coefficient_checks n m responses outs ≡ accepted → Coupled m (length responses.values) n.faces × (outs ≡ n.faces)
 unfolding coefficient_checks
 coefficients_passed n m responses outs h =
     let s = all_accepted _ h in
     let w = and_true (grid_sized n m && eqb (length responses.values) n.cells) (eqb outs n.faces) (passed WrongLength _ (s 1)) in
     let v = and_true (grid_sized n m) (eqb (length responses.values) n.cells) w.0 in
-    let o : outs ≡ n.faces = eqb-true _ _ w.1 in
-    (coupled_by m n.cells n.faces (length responses.values) outs (eqb-true _ _ v.1) o (coupled n m v.0 (faces_in n.cells m.adjacency (nothing_at BadFace _ (s 3)))), o)
+    (coupled_by m n.cells n.faces (length responses.values) (eqb-true _ _ v.1) (coupled n m v.0 (faces_in n.cells m.adjacency (nothing_at BadFace _ (s 3)))), eqb-true _ _ w.1)
 
 -- ---- with conditions and links
 
@@ -89,55 +94,56 @@ links_passed cells adjacency codes ok =
     let none = none_lower (lowest_bad_face cells adjacency) (lowest_unknown_code codes) (nothing_at BadFace _ (s 0)) in
     (faces_in cells adjacency none.0, links_in adjacency codes (nothing_at BadLink (lowest_bad_link adjacency codes) (s 1)))
 
-pub boundary_passed : (n : Counts) (m : Grid) (k : Conditions) (responses : Field) (outs : ℕ) (r : Answer) → r ≡ boundary_checks n m k responses outs → r ≡ accepted
-    → Coupled m (length responses.values) outs × Bounded (bounds_of k) outs × (outs ≡ n.faces)
+pub boundary_passed : (n : Counts) (m : Grid) (k : Conditions) (responses : Field) (outs : ℕ) → boundary_checks n m k responses outs ≡ accepted
+    → Coupled m (length responses.values) n.faces × Bounded (bounds_of k) n.faces × (outs ≡ n.faces)
 unfolding boundary_checks
-boundary_passed n m k responses outs r c e =
+boundary_passed n m k responses outs h =
     let bound = conditions_sized n.faces k.codes k.values in
-    let s = all_accepted _ (sym c ∙ e) in
+    let s = all_accepted _ h in
     let linked = links_passed n.cells m.adjacency k.codes (s 3) in
     let w = and_true (grid_sized n m && bound && eqb (length responses.values) n.cells) (eqb outs n.faces) (passed WrongLength _ (s 1)) in
     let v = and_true (grid_sized n m && bound) (eqb (length responses.values) n.cells) w.0 in
     let u = and_true (grid_sized n m) bound v.0 in
     let t = and_true (eqb (length k.codes) (2 * n.faces)) (eqb (length k.values) (4 * n.faces)) u.1 in
-    let o : outs ≡ n.faces = eqb-true _ _ w.1 in
-    let codes : length k.codes ≡ 2 * n.faces = eqb-true _ _ t.0 in
-    let values : length k.values ≡ 4 * n.faces = eqb-true _ _ t.1 in (
-      coupled_by m n.cells n.faces (length responses.values) outs (eqb-true _ _ v.1) o (coupled n m u.0 linked.0),
-      record { codes = omega (arith, codes, o); values = omega (arith, values, o); peers = λ f l. peer_below m.adjacency k.codes outs f (omega (arith, codes, o)) (linked.1 f (omega (arith, codes, o, l))) },
-      o,
+    let codes : length k.codes ≡ 2 * n.faces = eqb-true _ _ t.0 in (
+      coupled_by m n.cells n.faces (length responses.values) (eqb-true _ _ v.1) (coupled n m u.0 linked.0),
+      record { codes = codes; values = eqb-true _ _ t.1; peers = λ f l. peer_below m.adjacency k.codes n.faces f codes (linked.1 f (omega (arith, codes, l))) },
+      eqb-true _ _ w.1,
     )
 
-pub correction_passed : (n : Counts) (adjacency : List ℕ) (k : Conditions) (l : Fields) (outs : ℕ) (r : Answer) → r ≡ correction_checks n adjacency k l outs → r ≡ accepted
-    → Correctable (correcting_by adjacency k l) × (outs ≡ length l.predicted.values) × (length l.predicted.values ≡ n.faces)
+pub record Corrected (n : Counts) (adjacency : List ℕ) (k : Conditions) (l : Fields) (outs : ℕ) : Type 0 where
+  pub correctable : CorrectableFaces n.faces adjacency k.codes k.values l.coefficients.values l.correction.values
+  pub predicted : length l.predicted.values ≡ n.faces
+  pub out : outs ≡ n.faces
+
+pub correction_passed : (n : Counts) (adjacency : List ℕ) (k : Conditions) (l : Fields) (outs : ℕ) → correction_checks n adjacency k l outs ≡ accepted → Corrected n adjacency k l outs
 unfolding correction_checks
-correction_passed n adjacency k l outs r c e =
-    let s = all_accepted _ (sym c ∙ e) in
+correction_passed n adjacency k l outs h =
+    let s = all_accepted _ h in
     let linked = links_passed n.cells adjacency k.codes (s 3) in
     let w = every_at (correction_sizes n adjacency k l outs) (passed WrongLength _ (s 1)) in
     let t = and_true (eqb (length k.codes) (2 * n.faces)) (eqb (length k.values) (4 * n.faces)) (w 0) in
     let a : length adjacency ≡ 2 * n.faces = eqb-true _ _ (w 1) in
-    let p : length l.predicted.values ≡ n.faces = eqb-true _ _ (w 2) in
     let x : length l.correction.values ≡ n.cells = eqb-true _ _ (w 4) in
     let codes : length k.codes ≡ 2 * n.faces = eqb-true _ _ t.0 in
-    let values : length k.values ≡ 4 * n.faces = eqb-true _ _ t.1 in (
-      record {
-        adjacency = omega (arith, a, p);
-        codes = omega (arith, codes, p);
-        values = omega (arith, values, p);
-        coefficients = eqb-true _ _ (w 3) ∙ sym p;
-        sides = λ f h. rw x (linked.0 f (omega (arith, a, p, h)));
-        peers = λ f h. peer_below adjacency k.codes (length l.predicted.values) f (omega (arith, codes, p)) (linked.1 f (omega (arith, codes, p, h)));
-        links = λ f h some. (linked.1 f (omega (arith, codes, p, h)) some).one_cell;
-      },
-      eqb-true _ _ (w 5) ∙ sym p,
-      p,
-    )
+    record {
+      correctable = record {
+        adjacency = a;
+        codes = codes;
+        values = eqb-true _ _ t.1;
+        coefficients = eqb-true _ _ (w 3);
+        sides = λ f b. rw x (linked.0 f (omega (arith, a, b)));
+        peers = λ f b. peer_below adjacency k.codes n.faces f codes (linked.1 f (omega (arith, codes, b)));
+        links = λ f b some. (linked.1 f (omega (arith, codes, b)) some).one_cell;
+      };
+      predicted = eqb-true _ _ (w 2);
+      out = eqb-true _ _ (w 5);
+    }
 
 -- ---- the outflows and their metrics
 
 pub record Metered (n : Counts) (adjacency : List ℕ) (places : List Float) (flux : Field) (outs two : ℕ) : Type 0 where
-  pub flows : Flows outs adjacency flux.values
+  pub flows : Flows n.cells adjacency flux.values
   pub places_size : length places ≡ 4 * outs
   pub few : outs ≤ largest_count
   pub pair : two ≡ 2
@@ -148,13 +154,11 @@ unfolding metrics_checks
 metrics_passed n adjacency places flux outs two h =
     let s = all_accepted _ h in
     let w = every_at (metrics_sizes n adjacency places flux outs two) (passed WrongLength _ (s 1)) in
-    let a : length adjacency ≡ 2 * n.faces = eqb-true _ _ (w 0) in
     let p : length places ≡ 4 * n.cells = eqb-true _ _ (w 1) in
-    let v : length flux.values ≡ n.faces = eqb-true _ _ (w 2) in
     let o : outs ≡ n.cells = eqb-true _ _ (w 3) in
     let few = (small n (passed BadSize _ (s 0))).cells in
     record {
-      flows = flows_by n.cells n.faces adjacency flux.values outs a v o (nothing_at BadFace _ (s 3));
+      flows = flows_by n.cells n.faces adjacency flux.values n.cells (eqb-true _ _ (w 0)) (eqb-true _ _ (w 2)) refl (nothing_at BadFace _ (s 3));
       places_size = omega (arith, p, o);
       few = omega (arith, few, o);
       pair = eqb-true _ _ (w 4);
@@ -163,15 +167,18 @@ metrics_passed n adjacency places flux outs two h =
 
 -- ---- the prediction
 
+pub few_cells : (n : Counts) (records : ℕ) (t b c : Bool) → t ≡ sizes_ok n → shape (t && leb records largest_count) b c ≡ accepted → n.cells ≤ largest_count
+few_cells n records t b c e h = (small n (sym e ∙ (and_true t (leb records largest_count) (shape_accepted _ b c h).0).0)).cells
+
 pub record Predictable (n : Counts) (m : Grid) (records : ℕ) (s : Slices) (l : FlowFields) (slopes outs : ℕ) : Type 0 where
   pub sloped : Sloped s records l.pressure.values
-  pub coupled : Coupled m (length l.pressure.values) (length l.walls.values)
+  pub coupled : Coupled m (length l.responses.values) n.faces
   pub velocity : length l.velocity.values ≡ 3 * length l.pressure.values
-  pub gradient : slopes ≡ 3 * length l.pressure.values
   pub responses : length l.responses.values ≡ length l.pressure.values
+  pub walls : length l.walls.values ≡ n.faces
+  pub gradient : slopes ≡ 3 * length l.pressure.values
   pub out : outs ≡ length l.walls.values
   pub cells : length l.pressure.values ≡ n.cells
-  pub faces : length l.walls.values ≡ n.faces
 
 pub prediction_passed : (n : Counts) (m : Grid) (stencil records : ℕ) (s : Slices) (l : FlowFields) (slopes outs : ℕ) → prediction_checks n m stencil records s l slopes outs ≡ accepted → Predictable n m records s l slopes outs
 unfolding prediction_checks
@@ -182,19 +189,19 @@ prediction_passed n m stencil records s l slopes outs h =
     let w = and_true (grid_sized n m && held) flowing (passed WrongLength _ (q 1)) in
     let v = and_true (grid_sized n m) held w.0 in
     let u = every_at (flow_sizes n (sizes_of l) slopes outs) w.1 in
+    let y : length l.velocity.values ≡ 3 * n.cells = eqb-true _ _ (u 0) in
     let p : length l.pressure.values ≡ n.cells = eqb-true _ _ (u 1) in
     let r : length l.responses.values ≡ n.cells = eqb-true _ _ (u 2) in
     let x : length l.walls.values ≡ n.faces = eqb-true _ _ (u 3) in
     let g : slopes ≡ 3 * n.cells = eqb-true _ _ (u 4) in
     let o : outs ≡ n.faces = eqb-true _ _ (u 5) in
-    let y : length l.velocity.values ≡ 3 * n.cells = eqb-true _ _ (u 0) in
     record {
       sloped = slopes_by n.cells records s l.pressure.values v.1 p (nothing_at BrokenChain _ (q 4));
-      coupled = coupled_by m n.cells n.faces (length l.pressure.values) (length l.walls.values) p x (coupled n m v.0 (faces_in n.cells m.adjacency (nothing_at BadFace _ (q 3))));
+      coupled = coupled_by m n.cells n.faces (length l.responses.values) r (coupled n m v.0 (faces_in n.cells m.adjacency (nothing_at BadFace _ (q 3))));
       velocity = omega (arith, y, p);
-      gradient = omega (arith, g, p);
       responses = r ∙ sym p;
+      walls = x;
+      gradient = omega (arith, g, p);
       out = o ∙ sym x;
       cells = p;
-      faces = x;
     }

@@ -1,1 +1,2 @@
 pub mod Corrected
+pub mod Bundles

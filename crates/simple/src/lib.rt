@@ -1,40 +1,44 @@
 // Coupling of pressure and velocity: the response of the momentum equation, the coefficients of the
 // faces, the predicted and the corrected flux, the corrected velocity and the metrics of continuity.
-// A number that stands before a slice is the mesh number of that slice.
+// What an entry takes as several structs is lent apart, and checked together by that one function.
 #![tactic(auto)]
 
 ghost use Rattle.std.specs.Prelude.{◌≡◌, ◌≤◌};
 ghost use Rattle.mesh.specs.Answers.{at, or_else};
+ghost use Rattle.mesh.specs.Bundles.{conditions_of};
 ghost use Rattle.refusal.specs.declared.Reason.TheVariants.{BadFace, BrokenChain};
 ghost use Rattle.chain.specs.Chains.{lowest_broken};
 ghost use Rattle.mesh.specs.Checks.{largest_count, lowest_bad_face};
-ghost use Rattle.mesh.specs.Lent.{conditions_lent};
 ghost use Rattle.chain.specs.declared.Form.TheVariants.{Single};
-ghost use Rattle.numerics.specs.Slices.{slices_before, from_cell};
+ghost use Rattle.numerics.specs.Bundles.{slices_of};
+ghost use Rattle.numerics.specs.Slices.{from_cell};
 ghost use Rattle.predictor.specs.Boundary.{boundary_checks, BoundaryCall};
 ghost use Rattle.predictor.specs.Coefficients.{coefficient_checks, CoefficientCall};
-ghost use Rattle.simple.specs.Corrected.{fields, fields_lent, correction_checks, CorrectionCall, Promised};
+ghost use Rattle.predictor.specs.Prediction.{prediction_checks, PredictionCall};
+ghost use Rattle.simple.specs.Bundles.{flow_fields_of, fields_of};
+ghost use Rattle.simple.specs.Corrected.{correction_checks, CorrectionCall, Promised};
 ghost use Rattle.corrector.specs.Diagonal.{diagonal_checks, DiagonalCall};
-ghost use Rattle.coupling.specs.Grid.{grid_lent, field, field_lent, grid_sized};
+ghost use Rattle.coupling.specs.Grid.{grid_of_lent, field, field_of};
 ghost use Rattle.corrector.specs.Metrics.{metrics_checks, MetricsCall};
-ghost use Rattle.predictor.specs.Prediction.{flow_fields_lent, sizes, flow_sized, prediction_checks, PredictionCall};
 ghost use Rattle.corrector.specs.Velocity.{velocity_checks, VelocityCall};
 
 use chain::Form;
-use mesh::{Answer, Conditions, Counts};
+use corrector::inner::velocity::Velocity;
+use mesh::{Answer, Conditions, Counts, Faces, Field, Grid};
+use numerics::Stencil;
+use numerics::inner::gradient::Slope;
+use numerics::inner::outflow::Flux;
+use predictor::inner::boundary::Boundary;
+use predictor::inner::coefficients::Coupling;
+use predictor::inner::prediction::Momentum;
 use refusal::Reason;
 
-// Check 2, of adjacency, geometry and places.
-fn grid_sized(counts: Counts, adjacency: &[usize], geometry: &[f64], places: &[f64]) -> bool
-    ensures { result ≡ grid_sized counts (grid_lent adjacency geometry places) }
-{
-    mesh::is_sized(adjacency.len(), 2, counts.faces)
-        & mesh::is_sized(geometry.len(), 9, counts.faces)
-        & mesh::is_sized(places.len(), 4, counts.cells)
-}
+mod lent;
+
+pub use lent::{Corrections, FlowFields};
 
 // In each check `outs` is the length of the output.
-#[tactic(auto, using(mesh::proofs::Facts::refuses, mesh::proofs::Facts::goes_on, mesh::proofs::Facts::or_accepted), unfolding(mesh::specs::Answers::first_of, corrector::specs::Diagonal::diagonal_checks))]
+#[tactic(auto, using(mesh::proofs::Facts::in_order), unfolding(mesh::specs::Answers::first_of, corrector::specs::Diagonal::diagonal_checks))]
 fn check_diagonal(counts: Counts, diagonal: &[f64], outs: usize) -> Answer
     ensures { result ≡ diagonal_checks counts diagonal.now outs }
 {
@@ -44,7 +48,7 @@ fn check_diagonal(counts: Counts, diagonal: &[f64], outs: usize) -> Answer
 }
 
 // One over the momentum diagonal of each cell.
-#[tactic(auto, using(mesh::proofs::Facts::refuses), unfolding(mesh::specs::Answers::or_else, mesh::specs::Pass::if_refused))]
+#[tactic(auto, using(mesh::proofs::Facts::refuses, mesh::proofs::Facts::goes_on, crate::proofs::Checked::diagonal_passed, crate::proofs::Checked::if_accepted), unfolding(mesh::specs::Pass::if_refused))]
 pub fn momentum_inverse_diagonal(counts: Counts, diagonal: &[f64], out: &mut [f64]) -> Answer
     ensures call { DiagonalCall counts diagonal.now out.old result out.new }
 {
@@ -52,521 +56,321 @@ pub fn momentum_inverse_diagonal(counts: Counts, diagonal: &[f64], out: &mut [f6
     corrector::inner::diagonal::momentum_inverse_diagonal(diagonal, out)
 }
 
-#[tactic(auto, using(mesh::proofs::Facts::refuses, mesh::proofs::Facts::goes_on, mesh::proofs::Facts::or_accepted), unfolding(mesh::specs::Answers::first_of, predictor::specs::Coefficients::coefficient_checks))]
-fn check_coefficients(
-    counts: Counts,
-    adjacency: &[usize],
-    geometry: &[f64],
-    places: &[f64],
-    response: u64,
-    responses: &[f64],
-    outs: usize,
-) -> Answer
-    ensures checked { let m = grid_lent adjacency geometry places in
-        result ≡ coefficient_checks counts m (field_lent response responses) outs }
+#[tactic(auto, using(mesh::proofs::Facts::in_order, mesh::proofs::Facts::shape_first), unfolding(predictor::specs::Coefficients::coefficient_checks))]
+fn check_coefficients(grid: &Grid<'_>, responses: &Field<'_>, outs: usize) -> Answer
+    ensures checked { let m = grid_of_lent grid.now in
+        result ≡ coefficient_checks grid.now.counts m (field_of responses.now) outs }
 {
-    let sized = grid_sized(counts, adjacency, geometry, places)
-        & (responses.len() == counts.cells)
+    let counts = grid.counts;
+    let sized = lent::is_grid_sized(grid)
+        & (responses.values.len() == counts.cells)
         & (outs == counts.faces);
-    mesh::pass(Reason::BadSize, mesh::sizes_ok(counts))?;
-    mesh::pass(Reason::WrongLength, sized)?;
-    mesh::pass(Reason::OtherMesh, response == counts.mesh)?;
-    mesh::at(
-        Reason::BadFace,
-        mesh::lowest_bad_face(counts.cells, adjacency),
-    )
+    let same = responses.number == counts.mesh;
+    mesh::shape(mesh::sizes_ok(counts), sized, same)?;
+    mesh::at(Reason::BadFace, grid.faces().lowest_bad_face())
 }
 
 // The coefficient of each face with two cells; +0.0 at the others.
-#[tactic(auto, using(mesh::proofs::Facts::refuses), unfolding(mesh::specs::Answers::or_else, mesh::specs::Pass::if_refused))]
-pub fn pressure_face_coefficients(
-    counts: Counts,
-    adjacency: &[usize],
-    geometry: &[f64],
-    places: &[f64],
-    response: u64,
-    responses: &[f64],
-    out: &mut [f64],
-) -> Answer
-    ensures call { let m = grid_lent adjacency geometry places in
-        CoefficientCall counts m (field_lent response responses) out.old result out.new }
+#[tactic(auto, using(mesh::proofs::Facts::refuses, mesh::proofs::Facts::goes_on, crate::proofs::Checked::coefficients_passed, crate::proofs::Checked::if_accepted), unfolding(mesh::specs::Pass::if_refused))]
+pub fn pressure_face_coefficients(grid: &Grid<'_>, responses: &Field<'_>, out: &mut [f64]) -> Answer
+    ensures call { let m = grid_of_lent grid.now in
+        CoefficientCall grid.now.counts m (field_of responses.now) out.old result out.new }
 {
-    check_coefficients(
-        counts,
-        adjacency,
-        geometry,
-        places,
-        response,
-        responses,
-        out.len(),
-    )?;
-    predictor::inner::coefficients::pressure_face_coefficients(
-        adjacency, geometry, places, responses, out,
-    )
+    check_coefficients(grid, responses, out.len())?;
+    let coupling = Coupling {
+        grid: *grid,
+        responses: responses.values,
+    };
+    coupling.pressure_face_coefficients(out)
 }
 
-#[tactic(auto, using(mesh::proofs::Facts::refuses, mesh::proofs::Facts::goes_on, mesh::proofs::Facts::or_accepted), unfolding(mesh::specs::Answers::first_of, predictor::specs::Boundary::boundary_checks))]
+#[tactic(auto, using(mesh::proofs::Facts::in_order, mesh::proofs::Facts::shape_first), unfolding(predictor::specs::Boundary::boundary_checks))]
 fn check_boundary(
-    counts: Counts,
-    adjacency: &[usize],
-    geometry: &[f64],
-    places: &[f64],
-    number: u64,
-    codes: &[usize],
-    values: &[f64],
-    response: u64,
-    responses: &[f64],
+    grid: &Grid<'_>,
+    conditions: &Conditions<'_>,
+    responses: &Field<'_>,
     outs: usize,
 ) -> Answer
-    ensures checked { let m = grid_lent adjacency geometry places in
-        let k = conditions_lent number codes values in
-        result ≡ boundary_checks counts m k (field_lent response responses) outs }
+    ensures checked { let m = grid_of_lent grid.now in
+        let k = conditions_of conditions.now in
+        result ≡ boundary_checks grid.now.counts m k (field_of responses.now) outs }
 {
-    let conditions = Conditions {
-        number,
-        codes,
-        values,
-    };
-    let sized = grid_sized(counts, adjacency, geometry, places)
+    let counts = grid.counts;
+    let sized = lent::is_grid_sized(grid)
         & conditions.is_sized(counts.faces)
-        & (responses.len() == counts.cells)
+        & (responses.values.len() == counts.cells)
         & (outs == counts.faces);
-    let same = (number == counts.mesh) & (response == counts.mesh);
-    mesh::pass(Reason::BadSize, mesh::sizes_ok(counts))?;
-    mesh::pass(Reason::WrongLength, sized)?;
-    mesh::pass(Reason::OtherMesh, same)?;
-    mesh::check_links(counts.cells, adjacency, codes)
+    let same = (conditions.number == counts.mesh) & (responses.number == counts.mesh);
+    mesh::shape(mesh::sizes_ok(counts), sized, same)?;
+    grid.faces().check_links(conditions.codes)
 }
 
 // The coefficient of each face with two cells, with a link, or with a fixed value; +0.0 at the
-// others. `number` is the mesh number of the conditions.
-#[tactic(auto, using(mesh::proofs::Facts::refuses), unfolding(mesh::specs::Answers::or_else, mesh::specs::Pass::if_refused))]
-pub fn pressure_face_coefficients_with_boundary(
-    counts: Counts,
-    adjacency: &[usize],
-    geometry: &[f64],
-    places: &[f64],
-    number: u64,
-    codes: &[usize],
-    values: &[f64],
-    response: u64,
-    responses: &[f64],
+// others. The lifetime has a name since a `Boundary` holds mesh and conditions at one.
+#[tactic(auto, using(mesh::proofs::Facts::refuses, mesh::proofs::Facts::goes_on, crate::proofs::Checked::boundary_passed, crate::proofs::Checked::if_accepted), unfolding(mesh::specs::Pass::if_refused))]
+pub fn pressure_face_coefficients_with_boundary<'a>(
+    grid: &Grid<'a>,
+    conditions: &Conditions<'a>,
+    responses: &Field<'a>,
     out: &mut [f64],
 ) -> Answer
-    ensures call { let m = grid_lent adjacency geometry places in
-        let k = conditions_lent number codes values in
-        BoundaryCall counts m k (field_lent response responses) out.old result out.new }
+    ensures call { let m = grid_of_lent grid.now in
+        let k = conditions_of conditions.now in
+        BoundaryCall grid.now.counts m k (field_of responses.now) out.old result out.new }
 {
-    check_boundary(
-        counts,
-        adjacency,
-        geometry,
-        places,
-        number,
-        codes,
-        values,
-        response,
-        responses,
-        out.len(),
-    )?;
-    predictor::inner::boundary::pressure_face_coefficients_with_boundary(
-        adjacency, geometry, places, codes, values, responses, out,
-    )
-}
-
-// Check 2, of the fields of a prediction and of its outputs, which have so many numbers.
-fn flow_sized(
-    counts: Counts,
-    velocities: usize,
-    pressures: usize,
-    responses: usize,
-    walls: usize,
-    slopes: usize,
-    outs: usize,
-) -> bool
-    ensures { result ≡ flow_sized counts (sizes velocities pressures responses walls) slopes outs }
-{
-    mesh::is_sized(velocities, 3, counts.cells)
-        & (pressures == counts.cells)
-        & (responses == counts.cells)
-        & (walls == counts.faces)
-        & mesh::is_sized(slopes, 3, counts.cells)
-        & (outs == counts.faces)
+    check_boundary(grid, conditions, responses, out.len())?;
+    let coupling = Coupling {
+        grid: *grid,
+        responses: responses.values,
+    };
+    let boundary = Boundary {
+        coupling,
+        bounds: conditions.bounds(),
+    };
+    boundary.pressure_face_coefficients_with_boundary(out)
 }
 
 // The checks 4 and 5, of a mesh of not too many cells and a stencil.
-#[tactic(auto, using(mesh::proofs::Facts::refuses, mesh::proofs::Facts::goes_on, mesh::proofs::Facts::or_accepted))]
-fn check_chains(cells: usize, adjacency: &[usize], starts: &[usize], equations: &[usize]) -> Answer
-    requires { cells ≤ largest_count }
-    ensures checked { let face = lowest_bad_face cells adjacency.now in
-        let cell = lowest_broken (from_cell cells) equations.now Single starts.now in
+#[tactic(auto, using(mesh::proofs::Facts::in_order))]
+fn check_chains(faces: &Faces<'_>, stencil: &Stencil<'_>) -> Answer
+    requires { faces.now.counts.cells ≤ largest_count }
+    ensures checked { let cells = faces.now.counts.cells in
+        let face = lowest_bad_face cells faces.now.adjacency.now in
+        let cell = lowest_broken (from_cell cells) stencil.now.equations.now Single stencil.now.starts.now in
         result ≡ or_else (at BadFace face) (at BrokenChain cell) }
 {
-    mesh::at(Reason::BadFace, mesh::lowest_bad_face(cells, adjacency))?;
-    let cell = chain::lowest_broken(cells + 2, equations, Form::Single, starts);
+    mesh::at(Reason::BadFace, faces.lowest_bad_face())?;
+    let limit = faces.counts.cells + 2;
+    let cell = chain::lowest_broken(limit, stencil.equations, Form::Single, stencil.starts);
     mesh::at(Reason::BrokenChain, cell)
 }
 
-#[tactic(auto, using(mesh::proofs::Facts::refuses, mesh::proofs::Facts::goes_on, mesh::proofs::Facts::or_accepted), unfolding(mesh::specs::Answers::first_of, predictor::specs::Prediction::prediction_checks))]
+#[tactic(auto, using(mesh::proofs::Facts::in_order, mesh::proofs::Facts::shape_both), unfolding(predictor::specs::Prediction::prediction_checks))]
 fn check_prediction(
-    counts: Counts,
-    adjacency: &[usize],
-    geometry: &[f64],
-    places: &[f64],
-    stencil: u64,
-    records: usize,
-    starts: &[usize],
-    equations: &[usize],
-    weights: &[f64],
-    inverses: &[f64],
-    velocity: u64,
-    velocities: &[f64],
-    pressure: u64,
-    pressures: &[f64],
-    response: u64,
-    responses: &[f64],
-    wall: u64,
-    walls: &[f64],
+    grid: &Grid<'_>,
+    stencil: &Stencil<'_>,
+    fields: &FlowFields<'_>,
     slopes: usize,
     outs: usize,
 ) -> Answer
-    ensures checked { let m = grid_lent adjacency geometry places in
-        let s = slices_before starts equations weights inverses in
-        let l = flow_fields_lent velocity velocities pressure pressures response responses wall walls in
-        result ≡ prediction_checks counts m stencil records s l slopes outs }
+    ensures checked { let m = grid_of_lent grid.now in
+        let s = stencil.now in
+        let l = flow_fields_of fields.now in
+        result ≡ prediction_checks grid.now.counts m s.number s.records (slices_of s) l slopes outs }
 {
-    let sized = grid_sized(counts, adjacency, geometry, places)
-        & numerics::stencil_sized(
-            counts.cells,
-            records,
-            starts.len(),
-            equations.len(),
-            weights.len(),
-            inverses.len(),
-        )
-        & flow_sized(
-            counts,
-            velocities.len(),
-            pressures.len(),
-            responses.len(),
-            walls.len(),
-            slopes,
-            outs,
-        );
-    let same = (stencil == counts.mesh)
-        & (velocity == counts.mesh)
-        & (pressure == counts.mesh)
-        & (response == counts.mesh)
-        & (wall == counts.mesh);
-    mesh::pass(
-        Reason::BadSize,
-        mesh::sizes_ok(counts) & (records <= mesh::LARGEST_COUNT),
-    )?;
-    mesh::pass(Reason::WrongLength, sized)?;
-    mesh::pass(Reason::OtherMesh, same)?;
-    check_chains(counts.cells, adjacency, starts, equations)
+    let counts = grid.counts;
+    let sized = lent::is_grid_sized(grid)
+        & stencil.is_sized(counts.cells)
+        & fields.are_sized(counts, slopes, outs);
+    let same = (stencil.number == counts.mesh)
+        & (fields.velocity.number == counts.mesh)
+        & (fields.pressure.number == counts.mesh)
+        & (fields.responses.number == counts.mesh)
+        & (fields.walls.number == counts.mesh);
+    let few = mesh::sizes_ok(counts) & (stencil.records <= mesh::LARGEST_COUNT);
+    mesh::shape(few, sized, same)?;
+    #[tactic(auto, using(crate::proofs::Checked::few_cells))]
+    check_chains(&grid.faces(), stencil)
 }
 
 // The gradient of the pressure from the stencil, and the flux that is predicted with it: of a face
 // with two cells that of Rhie and Chow, of any other the wall flux as lent.
-#[tactic(auto, using(mesh::proofs::Facts::refuses), unfolding(mesh::specs::Answers::or_else, mesh::specs::Pass::if_refused))]
+#[tactic(auto, using(mesh::proofs::Facts::refuses, mesh::proofs::Facts::goes_on, crate::proofs::Checked::prediction_passed, crate::proofs::Checked::if_accepted), unfolding(mesh::specs::Pass::if_refused))]
 pub fn rhie_chow_predicted_flux(
-    counts: Counts,
-    adjacency: &[usize],
-    geometry: &[f64],
-    places: &[f64],
-    stencil: u64,
-    records: usize,
-    starts: &[usize],
-    equations: &[usize],
-    weights: &[f64],
-    inverses: &[f64],
-    velocity: u64,
-    velocities: &[f64],
-    pressure: u64,
-    pressures: &[f64],
-    response: u64,
-    responses: &[f64],
-    wall: u64,
-    walls: &[f64],
+    grid: &Grid<'_>,
+    stencil: &Stencil<'_>,
+    fields: &FlowFields<'_>,
     gradient: &mut [f64],
     out: &mut [f64],
 ) -> Answer
-    ensures call { let m = grid_lent adjacency geometry places in
-        let s = slices_before starts equations weights inverses in
-        let l = flow_fields_lent velocity velocities pressure pressures response responses wall walls in
+    ensures call { let m = grid_of_lent grid.now in
+        let s = stencil.now in
+        let l = flow_fields_of fields.now in
         let before = gradient.old in
-        PredictionCall counts m stencil records s l before out.old result gradient.new out.new }
+        PredictionCall grid.now.counts m s.number s.records (slices_of s) l before out.old result gradient.new out.new }
 {
-    check_prediction(
-        counts,
-        adjacency,
-        geometry,
-        places,
-        stencil,
-        records,
-        starts,
-        equations,
-        weights,
-        inverses,
-        velocity,
-        velocities,
-        pressure,
-        pressures,
-        response,
-        responses,
-        wall,
-        walls,
-        gradient.len(),
-        out.len(),
-    )?;
+    check_prediction(grid, stencil, fields, gradient.len(), out.len())?;
+    let coupling = Coupling {
+        grid: *grid,
+        responses: fields.responses.values,
+    };
+    let slope = Slope {
+        stencil: *stencil,
+        field: fields.pressure.values,
+    };
+    let momentum = Momentum {
+        coupling,
+        slope,
+        velocity: fields.velocity.values,
+        walls: fields.walls.values,
+    };
+    // No room for coefficients, which this call does not hand out. An `Option` of a slice would be no plainer: `store`
+    // asks at each face whether there is room, and would then ask whether there is a slice.
     let mut none = [0.0; 0];
-    predictor::inner::prediction::rhie_chow_predicted_flux(
-        adjacency, geometry, places, records, starts, equations, weights, inverses, velocities,
-        pressures, responses, walls, &mut none, gradient, out,
-    )
+    momentum.rhie_chow_predicted_flux(&mut none, gradient, out)
 }
 
-#[tactic(auto, using(mesh::proofs::Facts::refuses, mesh::proofs::Facts::goes_on, mesh::proofs::Facts::or_accepted), unfolding(mesh::specs::Answers::first_of, crate::specs::Corrected::correction_checks))]
+#[tactic(auto, using(mesh::proofs::Facts::in_order, mesh::proofs::Facts::shape_first), unfolding(crate::specs::Corrected::correction_checks))]
 fn check_correction(
-    counts: Counts,
-    adjacency: &[usize],
-    number: u64,
-    codes: &[usize],
-    values: &[f64],
-    prediction: u64,
-    predicted: &[f64],
-    coefficient: u64,
-    coefficients: &[f64],
-    correction: u64,
-    corrections: &[f64],
+    faces: &Faces<'_>,
+    conditions: &Conditions<'_>,
+    predicted: &Field<'_>,
+    fields: &Corrections<'_>,
     outs: usize,
 ) -> Answer
-    ensures checked { let k = conditions_lent number codes values in
-        let l = fields_lent prediction predicted coefficient coefficients correction corrections in
-        result ≡ correction_checks counts adjacency.now k l outs }
+    ensures checked { let m = faces.now in
+        let l = fields_of (field_of predicted.now) fields.now in
+        result ≡ correction_checks m.counts m.adjacency.now (conditions_of conditions.now) l outs }
 {
-    let conditions = Conditions {
-        number,
-        codes,
-        values,
-    };
+    let counts = faces.counts;
     let sized = conditions.is_sized(counts.faces)
-        & mesh::is_sized(adjacency.len(), 2, counts.faces)
-        & (predicted.len() == counts.faces)
-        & (coefficients.len() == counts.faces)
-        & (corrections.len() == counts.cells)
+        & mesh::is_sized(faces.adjacency.len(), 2, counts.faces)
+        & (predicted.values.len() == counts.faces)
+        & (fields.coefficients.values.len() == counts.faces)
+        & (fields.correction.values.len() == counts.cells)
         & (outs == counts.faces);
-    let same = (number == counts.mesh)
-        & (prediction == counts.mesh)
-        & (coefficient == counts.mesh)
-        & (correction == counts.mesh);
-    mesh::pass(Reason::BadSize, mesh::sizes_ok(counts))?;
-    mesh::pass(Reason::WrongLength, sized)?;
-    mesh::pass(Reason::OtherMesh, same)?;
-    mesh::check_links(counts.cells, adjacency, codes)
+    let same = (conditions.number == counts.mesh)
+        & (predicted.number == counts.mesh)
+        & (fields.coefficients.number == counts.mesh)
+        & (fields.correction.number == counts.mesh);
+    mesh::shape(mesh::sizes_ok(counts), sized, same)?;
+    faces.check_links(conditions.codes)
 }
 
 // The predicted flux of each face less its coefficient times the difference of the corrections on
-// its two sides; an unlinked one-cell zero-gradient face keeps its flux. `number` is the mesh number
-// of the conditions.
-#[tactic(auto, using(mesh::proofs::Facts::refuses), unfolding(mesh::specs::Answers::or_else, mesh::specs::Pass::if_refused))]
+// its two sides; an unlinked one-cell zero-gradient face keeps its flux.
+#[tactic(auto, using(mesh::proofs::Facts::refuses, mesh::proofs::Facts::goes_on, crate::proofs::Checked::correction_passed, crate::proofs::Corrected::keeps_promise, crate::proofs::Checked::if_accepted), unfolding(mesh::specs::Pass::if_refused))]
 pub fn correct_face_flux_with_boundary(
-    counts: Counts,
-    adjacency: &[usize],
-    number: u64,
-    codes: &[usize],
-    values: &[f64],
-    prediction: u64,
-    predicted: &[f64],
-    coefficient: u64,
-    coefficients: &[f64],
-    correction: u64,
-    corrections: &[f64],
+    faces: &Faces<'_>,
+    conditions: &Conditions<'_>,
+    predicted: &Field<'_>,
+    fields: &Corrections<'_>,
     out: &mut [f64],
 ) -> Answer
-    ensures call { let k = conditions_lent number codes values in
-        let l = fields_lent prediction predicted coefficient coefficients correction corrections in
-        CorrectionCall counts adjacency.now k l out.old result out.new }
-    ensures promise { let k = conditions_lent number codes values in
-        let l = fields_lent prediction predicted coefficient coefficients correction corrections in
-        Promised result adjacency.now k l out.new }
+    ensures call { let m = faces.now in
+        let k = conditions_of conditions.now in
+        let l = fields_of (field_of predicted.now) fields.now in
+        CorrectionCall m.counts m.adjacency.now k l out.old result out.new }
+    ensures promise { let k = conditions_of conditions.now in
+        let l = fields_of (field_of predicted.now) fields.now in
+        Promised result faces.now.adjacency.now k l out.new }
 {
-    check_correction(
-        counts,
-        adjacency,
-        number,
-        codes,
-        values,
-        prediction,
-        predicted,
-        coefficient,
-        coefficients,
-        correction,
-        corrections,
-        out.len(),
-    )?;
-    corrector::inner::correction::correct_face_flux(
-        adjacency,
-        codes,
-        values,
-        predicted,
-        coefficients,
-        corrections,
-        out,
-    )
+    check_correction(faces, conditions, predicted, fields, out.len())?;
+    let correction = fields.correction_on(faces, conditions);
+    correction.correct_face_flux(predicted.values, out)
 }
 
 // The same in one slice, which holds the predicted flux before the call and the corrected flux after it.
-// Refused by a check it keeps the predicted flux; refused by arithmetic it is +0.0 throughout.
-#[tactic(auto, using(mesh::proofs::Facts::refuses), unfolding(mesh::specs::Answers::or_else, mesh::specs::Pass::if_refused))]
+// Refused by a check it keeps the predicted flux; refused by arithmetic it is +0.0 throughout. `number` is
+// the mesh number of the flux.
+#[tactic(auto, using(mesh::proofs::Facts::refuses, mesh::proofs::Facts::goes_on, crate::proofs::Checked::correction_passed, crate::proofs::Corrected::keeps_promise, crate::proofs::Checked::if_accepted), unfolding(mesh::specs::Pass::if_refused))]
 pub fn correct_face_flux_in_place(
-    counts: Counts,
-    adjacency: &[usize],
+    faces: &Faces<'_>,
+    conditions: &Conditions<'_>,
+    fields: &Corrections<'_>,
     number: u64,
-    codes: &[usize],
-    values: &[f64],
-    coefficient: u64,
-    coefficients: &[f64],
-    correction: u64,
-    corrections: &[f64],
-    prediction: u64,
     flux: &mut [f64],
 ) -> Answer
-    ensures corrects { let k = conditions_lent number codes values in
-        let l = fields (field prediction flux.old) (field_lent coefficient coefficients) (field_lent correction corrections) in
-        let call = CorrectionCall counts adjacency.now k l flux.old result flux.new in
-        let promise = Promised result adjacency.now k l flux.new in
-        call × promise }
+    ensures call { let m = faces.now in
+        let k = conditions_of conditions.now in
+        let l = fields_of (field number flux.old) fields.now in
+        CorrectionCall m.counts m.adjacency.now k l flux.old result flux.new }
+    ensures promise { let k = conditions_of conditions.now in
+        let l = fields_of (field number flux.old) fields.now in
+        Promised result faces.now.adjacency.now k l flux.new }
 {
-    check_correction(
-        counts,
-        adjacency,
+    let predicted = Field {
         number,
-        codes,
-        values,
-        prediction,
-        flux,
-        coefficient,
-        coefficients,
-        correction,
-        corrections,
-        flux.len(),
-    )?;
-    inplace::inner::correct_face_flux_in_place(
-        adjacency,
-        codes,
-        values,
-        coefficients,
-        corrections,
-        flux,
-    )
+        values: flux,
+    };
+    check_correction(faces, conditions, &predicted, fields, flux.len())?;
+    let correction = fields.correction_on(faces, conditions);
+    inplace::inner::correct_face_flux_in_place(&correction, flux)
 }
 
-#[tactic(auto, using(mesh::proofs::Facts::refuses, mesh::proofs::Facts::goes_on, mesh::proofs::Facts::or_accepted), unfolding(mesh::specs::Answers::first_of, corrector::specs::Velocity::velocity_checks))]
+#[tactic(auto, unfolding(mesh::specs::Answers::shape, corrector::specs::Velocity::velocity_checks))]
 fn check_velocity(
     counts: Counts,
-    velocity: u64,
-    velocities: &[f64],
-    response: u64,
-    responses: &[f64],
-    gradient: u64,
-    gradients: &[f64],
+    velocity: &Field<'_>,
+    responses: &Field<'_>,
+    gradient: &Field<'_>,
     outs: usize,
 ) -> Answer
-    ensures checked { result ≡ velocity_checks counts (field_lent velocity velocities) (field_lent response responses) (field_lent gradient gradients) outs }
+    ensures checked { let v = field_of velocity.now in
+        result ≡ velocity_checks counts v (field_of responses.now) (field_of gradient.now) outs }
 {
-    let sized = mesh::is_sized(velocities.len(), 3, counts.cells)
-        & (responses.len() == counts.cells)
-        & mesh::is_sized(gradients.len(), 3, counts.cells)
+    let sized = mesh::is_sized(velocity.values.len(), 3, counts.cells)
+        & (responses.values.len() == counts.cells)
+        & mesh::is_sized(gradient.values.len(), 3, counts.cells)
         & mesh::is_sized(outs, 3, counts.cells);
-    let same = (velocity == counts.mesh) & (response == counts.mesh) & (gradient == counts.mesh);
-    mesh::pass(Reason::BadSize, mesh::sizes_ok(counts))?;
-    mesh::pass(Reason::WrongLength, sized)?;
-    mesh::pass(Reason::OtherMesh, same)
+    let same = (velocity.number == counts.mesh)
+        & (responses.number == counts.mesh)
+        & (gradient.number == counts.mesh);
+    mesh::shape(mesh::sizes_ok(counts), sized, same)
 }
 
 // The velocity of each cell less its response times the gradient.
-#[tactic(auto, using(mesh::proofs::Facts::refuses), unfolding(mesh::specs::Answers::or_else, mesh::specs::Pass::if_refused))]
+#[tactic(auto, using(mesh::proofs::Facts::refuses, mesh::proofs::Facts::goes_on, crate::proofs::Checked::velocity_passed, crate::proofs::Checked::if_accepted), unfolding(mesh::specs::Pass::if_refused))]
 pub fn correct_cell_velocity_from_gradient(
     counts: Counts,
-    velocity: u64,
-    velocities: &[f64],
-    response: u64,
-    responses: &[f64],
-    gradient: u64,
-    gradients: &[f64],
+    velocity: &Field<'_>,
+    responses: &Field<'_>,
+    gradient: &Field<'_>,
     out: &mut [f64],
 ) -> Answer
-    ensures call { let v = field_lent velocity velocities in
-        let g = field_lent gradient gradients in
-        VelocityCall counts v (field_lent response responses) g out.old result out.new }
+    ensures call { let v = field_of velocity.now in
+        let g = field_of gradient.now in
+        VelocityCall counts v (field_of responses.now) g out.old result out.new }
 {
-    check_velocity(
-        counts,
-        velocity,
-        velocities,
-        response,
-        responses,
-        gradient,
-        gradients,
-        out.len(),
-    )?;
-    corrector::inner::velocity::correct_cell_velocity_from_gradient(
-        velocities, responses, gradients, out,
-    )
+    check_velocity(counts, velocity, responses, gradient, out.len())?;
+    let velocity = Velocity {
+        values: velocity.values,
+        responses: responses.values,
+        gradient: gradient.values,
+    };
+    velocity.correct_cell_velocity_from_gradient(out)
 }
 
-#[tactic(auto, using(mesh::proofs::Facts::refuses, mesh::proofs::Facts::goes_on, mesh::proofs::Facts::or_accepted), unfolding(mesh::specs::Answers::first_of, corrector::specs::Metrics::metrics_checks))]
+#[tactic(auto, using(mesh::proofs::Facts::in_order, mesh::proofs::Facts::shape_first), unfolding(corrector::specs::Metrics::metrics_checks))]
 fn check_metrics(
-    counts: Counts,
-    adjacency: &[usize],
+    faces: &Faces<'_>,
     places: &[f64],
-    number: u64,
-    flux: &[f64],
+    flux: &Field<'_>,
     outs: usize,
-    two: usize,
+    metrics: usize,
 ) -> Answer
-    ensures checked { result ≡ metrics_checks counts adjacency.now places.now (field_lent number flux) outs two }
+    ensures checked { let m = faces.now in
+        result ≡ metrics_checks m.counts m.adjacency.now places.now (field_of flux.now) outs metrics }
 {
-    let sized = mesh::is_sized(adjacency.len(), 2, counts.faces)
+    let counts = faces.counts;
+    let sized = mesh::is_sized(faces.adjacency.len(), 2, counts.faces)
         & mesh::is_sized(places.len(), 4, counts.cells)
-        & (flux.len() == counts.faces)
+        & (flux.values.len() == counts.faces)
         & (outs == counts.cells)
-        & (two == 2);
-    mesh::pass(Reason::BadSize, mesh::sizes_ok(counts))?;
-    mesh::pass(Reason::WrongLength, sized)?;
-    mesh::pass(Reason::OtherMesh, number == counts.mesh)?;
-    mesh::at(
-        Reason::BadFace,
-        mesh::lowest_bad_face(counts.cells, adjacency),
-    )
+        & (metrics == 2);
+    let same = flux.number == counts.mesh;
+    mesh::shape(mesh::sizes_ok(counts), sized, same)?;
+    mesh::at(Reason::BadFace, faces.lowest_bad_face())
 }
 
 // The outflow of each cell, and in `metrics` their root mean square and the largest divergence.
-#[tactic(auto, using(mesh::proofs::Facts::refuses), unfolding(mesh::specs::Answers::or_else, mesh::specs::Pass::if_refused))]
+#[tactic(auto, using(mesh::proofs::Facts::refuses, mesh::proofs::Facts::goes_on, crate::proofs::Checked::metrics_passed, crate::proofs::Checked::if_accepted), unfolding(mesh::specs::Pass::if_refused))]
 pub fn continuity_metrics(
-    counts: Counts,
-    adjacency: &[usize],
+    faces: &Faces<'_>,
     places: &[f64],
-    number: u64,
-    flux: &[f64],
+    flux: &Field<'_>,
     outflow: &mut [f64],
     metrics: &mut [f64],
 ) -> Answer
-    ensures call { let a = adjacency.now in
-        let p = places.now in
+    ensures call { let m = faces.now in
+        let x = field_of flux.now in
         let sums = outflow.old in
-        MetricsCall counts a p (field_lent number flux) sums metrics.old result outflow.new metrics.new }
+        MetricsCall m.counts m.adjacency.now places.now x sums metrics.old result outflow.new metrics.new }
 {
-    check_metrics(
-        counts,
-        adjacency,
-        places,
-        number,
-        flux,
-        outflow.len(),
-        metrics.len(),
-    )?;
-    corrector::inner::metrics::continuity_metrics(adjacency, places, flux, outflow, metrics)
+    check_metrics(faces, places, flux, outflow.len(), metrics.len())?;
+    let flux = Flux {
+        faces: *faces,
+        values: flux.values,
+    };
+    corrector::inner::metrics::continuity_metrics(&flux, places, outflow, metrics)
 }

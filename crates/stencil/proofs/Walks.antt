@@ -1,7 +1,8 @@
 -- The chain of a cell as the list of its items: it ends, and each item is below the limit. Assumes nothing.
+use Rattle.std.specs.Prelude.{Option, None, Some}
 use mathlib.Core.Path.{◌≡◌}
 use mathlib.Core.List.{List, [], ◌∷◌}
-use Prim.Native.Nat.{ℕ, zero, suc, ◌*◌, ◌/◌, ◌<◌, ◌≤◌, zero-le}
+use Prim.Native.Nat.{ℕ, zero, suc, ◌*◌, ◌-◌, ◌/◌, ◌<◌, ◌≤◌, zero-le}
 use native.Mathlib.Omega.{arith}
 use lib.Dec.{eqb-suc-zero}
 use lib.ListN.{length}
@@ -31,3 +32,8 @@ walk_bounded l records limit (suc n) (suc r) c =
 -- the first of them
 pub first_below : {limit i : ℕ} {l rest : List ℕ} → Bounded limit l → l ≡ i ∷ rest → i < limit
 first_below b e = (rw e at b).0
+
+-- how far a search among n is from its end, by the next that it found
+abbrev pub left : ℕ → Option ℕ → ℕ
+left n None = 0
+left n (Some d) = n - d

@@ -3,12 +3,11 @@ use Rattle.std.specs.Prelude.{List, [], ◌∷◌, cond, ℕ, ◌+◌, ◌*◌, 
 use Rattle.refusal.specs.Numbers.{refusal}
 use Rattle.refusal.specs.declared.Reason.TheVariants.{BadSize}
 use Rattle.refusal.specs.declared.Refusal.{Refusal}
-use Rattle.mesh.specs.Lent.{MutSlice}
 use Rattle.vector.specs.declared.Vec3.{Vec3}
 use Rattle.matrix.specs.declared.Normal.{Normal}
-use Rattle.stencil.specs.declared.inner.build.Equation.{Equation}
-use Rattle.stencil.specs.declared.inner.build.Progress.{Progress}
-use Rattle.stencil.specs.declared.inner.build.Solution.{Solution}
+use Rattle.numerics.specs.Slices.{from_self, from_value, from_cell}
+use Rattle.stencil.specs.declared.inner.building.Source.{Source}
+use Rattle.stencil.specs.declared.inner.building.Source.TheVariants.{Own, Fixed, Cell}
 
 pub record Building : Type 0 where
   pub used : ℕ
@@ -53,6 +52,18 @@ over_all step (i ∷ is) b = and_then (step i b) (over_all step is)
 
 -- ---- an equation appended
 
+-- where its other value comes from, as it is lent
+abbrev pub source_number : Source → ℕ
+source_number Own = from_self
+source_number Fixed = from_value
+source_number (Cell c) = from_cell c
+
+-- its source as it is lent, the coefficient of the difference, and the fixed value
+pub record Equation : Type 0 where
+  pub source : ℕ
+  pub coefficient : Vec3
+  pub value : Float
+
 abbrev pub equation : ℕ → Vec3 → Float → Equation
 equation s k v = record { source = s; coefficient = k; value = v }
 
@@ -72,24 +83,3 @@ appended e b =
 -- an equation is appended where a record is left for it
 unfoldable pub push : ℕ → Equation → Building → Course Building
 push records e b = cond (ltb b.used records) (Ok (appended e b)) (Err (refusal BadSize 0))
-
--- ---- as the code has it
-
--- what a call that returns its progress, or a solution, and leaves these lists, came to
-abbrev pub course_of : Course Progress → List ℕ → List Float → Course Building
-course_of (Err r) e w = Err r
-course_of (Ok p) e w = Ok (building p.used e w p.normal)
-
-abbrev pub finish_of : Course Solution → List ℕ → List Float → Course Solved
-finish_of (Err r) e w = Err r
-finish_of (Ok s) e w = Ok (solved s.used e w s.inverse)
-
--- from the slices as a clause names them, at the call and after it
-abbrev pub building_before : Progress → MutSlice ℕ → MutSlice Float → Building
-building_before p e w = building p.used e.entry.now w.entry.now p.normal
-
-abbrev pub course_after : Course Progress → MutSlice ℕ → MutSlice Float → Course Building
-course_after s e w = course_of s e.exit.now w.exit.now
-
-abbrev pub finish_after : Course Solution → MutSlice ℕ → MutSlice Float → Course Solved
-finish_after s e w = finish_of s e.exit.now w.exit.now

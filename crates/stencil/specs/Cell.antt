@@ -1,5 +1,5 @@
 -- The stencil of one cell, phase by phase: its faces, in 2D its second ring, and its zero-gradient faces. Definitions only.
-use Rattle.std.specs.Prelude.{List, cond, ℕ, ◌-◌, eqb, Float, Option, None, Some, Ok, Err}
+use Rattle.std.specs.Prelude.{List, cond, ℕ, ◌-◌, ◌^◌, ◌<◌, eqb, Float, Option, None, Some, Ok, Err}
 use Rattle.refusal.specs.Numbers.{refusal}
 use Rattle.refusal.specs.declared.Reason.TheVariants.{TooNear, SingularStencil, NoCondition}
 use Rattle.binary64.specs.Numbers.{zero64, one64, eps, is_far, ◌⊘◌}
@@ -10,12 +10,15 @@ use Rattle.matrix.specs.declared.Normal.{Normal}
 use Rattle.mesh.specs.Records.{owner_at, neighbour_at, face_centre, face_normal, centre, peer_at, translation_at, condition_at}
 use Rattle.mesh.specs.declared.Condition.{Condition}
 use Rattle.mesh.specs.declared.Condition.TheVariants.{Absent, Fixed, ZeroGradient}
-use Rattle.numerics.specs.Slices.{from_self, from_value, from_cell}
-use Rattle.stencil.specs.declared.inner.build.Offer.{Offer}
-use Rattle.stencil.specs.declared.inner.build.Offer.TheVariants.{Closing, Missing, Difference}
+use Rattle.numerics.specs.Slices.{from_self, from_cell}
+use Rattle.stencil.specs.declared.inner.cell.Offer.{Offer}
+use Rattle.stencil.specs.declared.inner.cell.Offer.TheVariants.{Closing, Missing, Difference}
+use Rattle.stencil.specs.declared.inner.building.Source.TheVariants.{Fixed as FixedSource, Cell}
+use Rattle.stencil.specs.declared.inner.cell.Phase.{Phase}
+use Rattle.stencil.specs.declared.inner.cell.Phase.TheVariants.{Gather, Close}
 use Rattle.stencil.specs.Ring.{ring}
 use Rattle.stencil.specs.Lent.{Lent, cell_faces, web_of}
-use Rattle.stencil.specs.Building.{Building, with_normal, Solved, with_inverse, Course, and_then, over_all, equation, push}
+use Rattle.stencil.specs.Building.{Building, with_normal, Solved, with_inverse, Course, and_then, over_all, source_number, equation, push}
 use Rattle.std.specs.Float.Ieee as Ieee
 
 -- ---- what a face gives a cell
@@ -23,12 +26,18 @@ use Rattle.std.specs.Float.Ieee as Ieee
 -- a one-cell face without a link, by its condition; `away` is its centre as seen from the cell's
 unfoldable pub wall : Condition → Vec3 → Offer
 wall Absent away = Missing
-wall (Fixed v) away = Difference from_value away v
+wall (Fixed v) away = Difference FixedSource away v
 wall ZeroGradient away = Closing
+
+-- the number of its source, if it has one, fits
+abbrev pub Lendable : Offer → Type 0
+Lendable Closing = Unit {0}
+Lendable Missing = Unit {0}
+Lendable (Difference source offset value) = source_number source < 2 ^ 64
 
 -- the centre of another cell
 abbrev pub to_cell : List Float → ℕ → ℕ → Offer
-to_cell places c other = Difference (from_cell other) (difference (centre places other) (centre places c)) zero64
+to_cell places c other = Difference (Cell other) (difference (centre places other) (centre places c)) zero64
 
 -- a face with two cells: the other of them, at its centre
 abbrev pub across_face : Lent → ℕ → ℕ → Offer
@@ -42,7 +51,7 @@ abbrev pub across_link : Lent → ℕ → ℕ → Offer
 across_link l c f =
     let other = owner_at l.mesh.adjacency (peer_at l.bounds.codes f - 1) in
     let there = difference (centre l.mesh.places other) (translation_at l.bounds.values f) in
-    Difference (from_cell other) (difference there (centre l.mesh.places c)) zero64
+    Difference (Cell other) (difference there (centre l.mesh.places c)) zero64
 
 -- what the face f gives the cell c: by its neighbour, else by its link, else by its condition
 unfoldable pub offer : Lent → ℕ → ℕ → Offer
@@ -66,7 +75,7 @@ weighted records f source offset value b =
 unfoldable pub offered : ℕ → ℕ → Offer → Building → Course Building
 offered records f Closing b = Ok b
 offered records f Missing b = Err (refusal NoCondition f)
-offered records f (Difference source offset value) b = weighted records f source offset value b
+offered records f (Difference source offset value) b = weighted records f (source_number source) offset value b
 
 unfoldable pub add_face : Lent → ℕ → ℕ → ℕ → Building → Course Building
 add_face l records c f b = offered records f (offer l c f) b
@@ -110,6 +119,14 @@ add_closing l records c f b = closing records (face_normal l.mesh.geometry f) (o
 
 unfoldable pub close : Lent → ℕ → ℕ → Building → Course Building
 close l records c b = over_all (add_closing l records c) (cell_faces l.mesh c) b
+
+-- the two passes over the faces of a cell, in one
+abbrev pub step_of : Phase → Lent → ℕ → ℕ → ℕ → Building → Course Building
+step_of Gather = add_face
+step_of Close = add_closing
+
+abbrev pub over_faces : Phase → Lent → ℕ → ℕ → Building → Course Building
+over_faces phase l records c b = over_all (step_of phase l records c) (cell_faces l.mesh c) b
 
 -- ---- phase by phase, until the normal matrix has an inverse
 

@@ -4,3 +4,4 @@ pub mod Building
 pub mod Cell
 pub mod Stencil
 pub mod Checks
+pub mod Bundles

@@ -1,8 +1,7 @@
 -- The second ring of a cell: the neighbours of its neighbours that are neither itself nor neighbours, in rising order.
-use Rattle.std.specs.Prelude.{◌≡◌, List, [], ◌∷◌, Bool, not, ◌&&◌, cond, ℕ, zero, suc, ◌+◌, ◌*◌, ◌-◌, ◌<◌, eqb, leb, ltb, length}
+use Rattle.std.specs.Prelude.{◌≡◌, List, [], ◌∷◌, Bool, not, ◌&&◌, cond, ℕ, zero, suc, ◌+◌, ◌*◌, ◌-◌, ◌<◌, eqb, leb, ltb, length, Option, None, Some}
 use Rattle.std.specs.List.{list_any, fold}
 use Rattle.chain.specs.Chains.{walk, Chain}
-use Rattle.mesh.specs.Lent.{Slice}
 use Rattle.mesh.specs.Records.{first_bordering}
 use Rattle.mesh.specs.declared.Counts.{Counts}
 
@@ -18,10 +17,6 @@ pub record Ways : Type 0 where
 
 abbrev pub ways : Counts → List ℕ → List ℕ → Ways
 ways n h b = record { counts = n; heads = h; bordering = b }
-
--- from the slices as a clause names them, at the call
-abbrev pub ways_before : Counts → Slice ℕ → Slice ℕ → Ways
-ways_before n h b = ways n h.entry.now b.entry.now
 
 -- what the shape and mesh checks establish of them
 pub record Web (w : Ways) : Type 0 where
@@ -50,12 +45,13 @@ up_from p (suc n) d = cond (p d) (d ∷ up_from p n (d + 1)) (up_from p n (d + 1
 unfoldable pub ring : Ways → ℕ → List ℕ
 ring w c = up_from (in_ring w c) w.counts.cells 0
 
--- its cells from d on; and those where d is the first of them, or no cell
+-- its cells from d on; and those from the next one on, if there is one
 abbrev pub ring_from : Ways → ℕ → ℕ → List ℕ
 ring_from w c d = up_from (in_ring w c) (w.counts.cells - d) d
 
-abbrev pub ring_at : Ways → ℕ → ℕ → List ℕ
-ring_at w c d = cond (ltb d w.counts.cells) (d ∷ ring_from w c (d + 1)) []
+abbrev pub ring_at : Ways → ℕ → Option ℕ → List ℕ
+ring_at w c None = []
+ring_at w c (Some d) = d ∷ ring_from w c (d + 1)
 
 -- the search for the next: the lowest fresh cell from `from` on among those listed, or `best` where that is lower
 unfoldable pub lower_fresh : Ways → ℕ → ℕ → ℕ → ℕ → ℕ

@@ -4,7 +4,6 @@ use Rattle.std.specs.Prelude.{◌≡◌, List, cond, ℕ, zero, suc, ◌+◌, �
 use Rattle.binary64.specs.Numbers.{zero64}
 use Rattle.matrix.specs.Normal.{zero9}
 use Rattle.matrix.specs.declared.Normal.{Normal}
-use Rattle.mesh.specs.Lent.{MutSlice}
 use Rattle.numerics.specs.Slices.{Slices, slices}
 use Rattle.stencil.specs.Lent.{Lent}
 use Rattle.stencil.specs.Building.{building, Solved, Course}
@@ -39,6 +38,13 @@ blank l records =
     let cells = l.mesh.counts.cells in
     slices (replicate cells 0) (replicate (2 * records) 0) (replicate (4 * records) zero64) (replicate (9 * cells) zero64)
 
+-- the slices have the lengths of a stencil of so many records
+pub record SlicesSized (l : Lent) (records : ℕ) (s : Slices) : Type 0 where
+  pub starts : length s.starts ≡ l.mesh.counts.cells
+  pub equations : length s.equations ≡ 2 * records
+  pub weights : length s.weights ≡ 4 * records
+  pub inverses : length s.inverses ≡ 9 * l.mesh.counts.cells
+
 -- the stencil with that of the cell c added
 unfoldable pub joined : ℕ → Stencil → Course Solved → Course Stencil
 joined c s (Err e) = Err e
@@ -66,15 +72,15 @@ unfoldable pub answer_of : Course Stencil → Answer
 answer_of (Err e) = Err e
 answer_of (Ok s) = accepted
 
-unfoldable pub slices_of : Lent → ℕ → Course Stencil → Slices
-slices_of l records (Err e) = blank l records
-slices_of l records (Ok s) = s.slices
+unfoldable pub slices_after : Lent → ℕ → Course Stencil → Slices
+slices_after l records (Err e) = blank l records
+slices_after l records (Ok s) = s.slices
 
 unfoldable pub stencil_answer : Lent → ℕ → Answer
 stencil_answer l records = answer_of (whole l records)
 
 unfoldable pub stencil_slices : Lent → ℕ → Slices
-stencil_slices l records = slices_of l records (whole l records)
+stencil_slices l records = slices_after l records (whole l records)
 
 -- what the pass over the cells comes to, in slices that were blank: its refusal, or the slices as they are handed out
 abbrev pub Filled : Lent → ℕ → Answer → Slices → Type 0
@@ -86,7 +92,3 @@ abbrev pub cleared : Slices → Slices
 cleared s =
     slices (replicate (length s.starts) 0) (replicate (length s.equations) 0) (replicate (length s.weights) zero64)
     (replicate (length s.inverses) zero64)
-
--- from slices that a call writes, as a clause names them, at the call
-abbrev pub slices_at : MutSlice ℕ → MutSlice ℕ → MutSlice Float → MutSlice Float → Slices
-slices_at s e w i = slices s.entry.now e.entry.now w.entry.now i.entry.now

@@ -1,3 +1,3 @@
 -- What the checks establish, and what is handed out.
 pub mod Passed
-pub mod Outputs
+pub mod Handed

@@ -1,30 +1,29 @@
 -- What the checks of the step establish. Assumes nothing.
 use Rattle.refusal.specs.declared.Reason.TheVariants.{BadSize, WrongLength, OtherMesh}
-use mathlib.Core.Path.{◌≡◌, refl, sym, ap, ◌∙◌}
-use mathlib.Core.Bool.{Bool, ◌&&◌}
+use mathlib.Core.Path.{◌≡◌}
+use mathlib.Core.Bool.{◌&&◌}
 use Prim.Native.Nat.{◌*◌}
 use lib.Dec.{eqb, leb}
 use lib.ListN.{length}
 use borrow.Author.Tests.{eqb-true, leb-true}
-use Rattle.mesh.specs.Answers.{or_else, shape, Answer, accepted}
-use Rattle.chain.specs.Search.{every_of}
+use Rattle.mesh.specs.Answers.{accepted}
 use Rattle.mesh.specs.Checks.{largest_count, sizes_ok}
-use Rattle.mesh.specs.Mesh.{mesh_sized, conditions_sized, topology}
+use Rattle.mesh.specs.Mesh.{mesh_sized, conditions_sized}
 use Rattle.mesh.proofs.Facts.{all_accepted, shape_first, small}
 use Rattle.mesh.proofs.Facts as facts
 use Rattle.mesh.proofs.Good.{sized, sound}
 use Rattle.chain.proofs.Truth.{and_true, every_at}
 use Rattle.numerics.specs.Slices.{lengths_of, stencil_sizes}
-use Rattle.step.specs.Call.{Handed, field_sizes, fields_sized, output_sizes, outputs_sized, step_numbers, step_sized, step_checks, OutputsFit}
-use Rattle.scheme.specs.Step.{Inputs, alike, work_answer, Lendable}
+use Rattle.step.specs.Call.{Handed, field_sizes, fields_sized, output_sizes, outputs_sized, step_numbers, step_checks, OutputsFit}
+use Rattle.scheme.specs.Step.{Inputs, Lendable}
 
-pub passed : (d : Inputs) (old : Handed) (r : Answer) → r ≡ step_checks d old → r ≡ accepted → Lendable d × OutputsFit d.mesh.counts d.records old
+pub passed : (d : Inputs) (old : Handed) → step_checks d old ≡ accepted → Lendable d × OutputsFit d.mesh.counts d.records old
 unfolding step_checks
-passed d old r c e =
+passed d old h =
     let m = d.mesh in
     let n = m.counts in
     let k = d.conditions in
-    let s = all_accepted _ (sym c ∙ e) in
+    let s = all_accepted _ h in
     let counts = and_true (sizes_ok n) (leb d.records largest_count) (facts.passed BadSize _ (s 0)) in
     let same = every_at (step_numbers d) (facts.passed OtherMesh _ (s 2)) in
     let bound = conditions_sized n.faces k.codes k.values in
@@ -69,38 +68,3 @@ passed d old r c e =
         metrics = eqb-true _ _ (o 6);
       },
     )
-
--- the checks by what is found of each: of the counts, the mesh, the conditions, the fields and the outputs, then of the shape
-module _ (d : Inputs) (old : Handed) (z m k f o : Bool) (a : Answer) (ez : z ≡ sizes_ok d.mesh.counts) (em : m ≡ mesh_sized d.mesh)
-    (ek : k ≡ conditions_sized d.mesh.counts.faces d.conditions.codes d.conditions.values)
-    (ef : f ≡ fields_sized d.mesh.counts (length d.velocity.values) (length d.pressure.values) (length d.responses.values) (length d.walls.values) (length d.correction.values))
-    (eo : o ≡ outputs_sized d.mesh.counts d.records old) (ea : a ≡ shape (z && leb d.records largest_count) (m && k && f && o) (every_of (step_numbers d))) where
-  shaped : shape (z && leb d.records largest_count) (m && k && f && o) (every_of (step_numbers d)) ≡ shape (sizes_ok d.mesh.counts && leb d.records largest_count) (step_sized d old) (every_of (step_numbers d))
-  shaped = rw (ez, em, ek, ef, eo)
-
-  found : step_checks d old ≡ or_else a (topology d.mesh d.conditions.codes)
-  unfolding step_checks
-  found = shape_first _ _ _ _ ∙ ap (λ (b : Answer). or_else b (topology d.mesh d.conditions.codes)) (sym (ea ∙ shaped))
-
-  pub checked_by : (r : Answer) → a ≡ accepted → r ≡ topology d.mesh d.conditions.codes → r ≡ step_checks d old
-  unfolding or_else
-  checked_by r ok is = is ∙ sym (found ∙ rw ok)
-
--- the work does not look at mesh numbers
-abbrev numbered : Inputs → Inputs
-numbered d = alike d.mesh d.conditions.codes d.conditions.values d.records d.velocity.values d.pressure.values d.responses.values d.walls.values d.correction.values
-
-pub same_work : (d : Inputs) → work_answer (numbered d) ≡ work_answer d
-unfolding work_answer
-same_work d = refl
-
-pub ready_numbered : (d : Inputs) → Lendable d → Lendable (numbered d)
-ready_numbered d l = record {
-  good = record { small = l.good.small; sized = l.good.sized; codes = l.good.codes; values = l.good.values; same = refl; sound = l.good.sound };
-  few = l.few;
-  velocity = l.velocity;
-  pressure = l.pressure;
-  responses = l.responses;
-  walls = l.walls;
-  correction = l.correction;
-}

@@ -1,6 +1,8 @@
 -- The step as one call: its checks, its answer, and what its ten outputs hold. Definitions only.
 use Rattle.refusal.specs.declared.Reason.TheVariants.{BadSize, WrongLength, OtherMesh}
-use Rattle.std.specs.Prelude.{◌≡◌, List, [], ◌∷◌, Bool, ◌&&◌, ℕ, ◌*◌, eqb, leb, length, replicate, Float}
+use Rattle.std.specs.Prelude.{◌≡◌, List, [], ◌∷◌, Bool, ◌&&◌, ℕ, ◌*◌, T, eqb, leb, length, get_or, replicate, Float}
+use Rattle.std.specs.Float.{nan, binary64}
+use Rattle.std.specs.Float.Ieee.{fits}
 use Rattle.binary64.specs.Numbers.{zero64}
 use Rattle.mesh.specs.Answers.{pass, first_of, or_else, Answer, accepted}
 use Rattle.mesh.specs.Checks.{largest_count, sizes_ok}
@@ -28,6 +30,10 @@ handed s g p k f o m = record { stencil = s; gradient = g; predicted = p; coeffi
 -- what holds where the answer accepts
 abbrev pub IfAccepted : Answer → Type 0 → Type 0
 IfAccepted r P = r ≡ accepted → P
+
+-- the numbers of a slice, as its type says
+abbrev pub Binary64 : List Float → Type 0
+Binary64 l = (i : ℕ) → T (fits binary64 (get_or l i nan))
 
 -- ---- the checks
 

@@ -1,2 +1,4 @@
 pub mod Call
 pub mod Lent
+pub mod Bundles
+pub mod Work

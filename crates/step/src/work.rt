@@ -1,28 +1,44 @@
 // The parts of the step in their order, for a caller that has made the checks.
-ghost use Rattle.std.specs.Prelude.{◌≡◌, ◌*◌, ◌≤◌, ◌<◌, length};
-ghost use Rattle.mesh.specs.Answers.{or_else};
-ghost use Rattle.mesh.specs.Checks.{largest_count};
-ghost use Rattle.mesh.specs.Lent.{mesh_lent, bounds_lent};
-ghost use Rattle.mesh.specs.Mesh.{bounds};
+ghost use Rattle.std.specs.Prelude.{◌≡◌, ◌*◌, length};
+ghost use Rattle.mesh.specs.Answers.{or_else, accepted};
+ghost use Rattle.mesh.specs.Bundles.{grid_in};
+ghost use Rattle.mesh.specs.Mesh.{bounds_of};
 ghost use Rattle.mesh.specs.Pass.{if_refused};
-ghost use Rattle.numerics.specs.Slices.{slices_after};
-ghost use Rattle.numerics.specs.Gradient.{gradients};
-ghost use Rattle.numerics.specs.Outflow.{Flows, outflows};
-ghost use Rattle.stencil.specs.Lent.{lent_now, lent_before, Buildable};
-ghost use Rattle.stencil.specs.Stencil.{stencil_answer, stencil_slices};
-ghost use Rattle.coupling.specs.Grid.{grid, grid_lent, Coupled};
-ghost use Rattle.predictor.specs.Boundary.{Bounded, Begun, boundary_answer, boundary_coefficients};
-ghost use Rattle.predictor.specs.Prediction.{flow, Flowing, prediction_answer, predicted_fluxes};
-ghost use Rattle.corrector.specs.Correction.{correcting, Correctable, correction_answer, corrected_fluxes};
+ghost use Rattle.stencil.specs.Lent.{lent_of};
+ghost use Rattle.stencil.specs.Stencil.{SlicesSized, stencil_answer};
+ghost use Rattle.predictor.specs.Boundary.{Begun, boundary_answer};
+ghost use Rattle.predictor.specs.Prediction.{prediction_answer};
+ghost use Rattle.corrector.specs.Correction.{correction_answer};
 ghost use Rattle.corrector.specs.Metrics.{metrics_of, metrics_answer, metrics_numbers};
-ghost use Rattle.scheme.specs.Step.{finite_answer, work_answer, Lendable};
-ghost use Rattle.step.specs.Call.{IfAccepted, cleared, results, OutputsFit};
-ghost use Rattle.step.specs.Lent.{alike_lent, outputs_before, outputs_after, mesh_now, alike_now, outputs_now};
+ghost use Rattle.scheme.specs.Step.{finite_answer, work_answer, Lendable, grid_of, flow_of, stencil_of, gradient_of, predicted_of, coefficients_of, correcting_of, fluxes_of, outflows_of};
+ghost use Rattle.step.specs.Bundles.{inputs_of};
+ghost use Rattle.scheme.specs.Demand.{Demanded};
+ghost use Rattle.step.specs.Call.{IfAccepted, Binary64, cleared, results, OutputsFit};
 
-use mesh::{Answer, Counts};
+use crate::{Fields, Outputs};
+use corrector::inner::correction::Correction;
+use mesh::{Answer, Conditions, Mesh};
+use numerics::Stencil;
+use numerics::inner::gradient::Slope;
+use numerics::inner::outflow::Flux;
+use predictor::inner::boundary::Boundary;
+use predictor::inner::coefficients::Coupling;
+use predictor::inner::prediction::Momentum;
 use refusal::Reason;
+use stencil::StencilMut;
+use stencil::inner::build::Domain;
 
-// 9 with index 0 where an outflow is not finite.
+// What a step is lent, once it has passed the checks, with room for so many records.
+#[derive(Clone, Copy)]
+pub(crate) struct Work<'a> {
+    pub(crate) mesh: Mesh<'a>,
+    pub(crate) conditions: Conditions<'a>,
+    pub(crate) fields: Fields<'a>,
+    pub(crate) records: usize,
+    ghost lendable: { Lendable (inputs_of mesh conditions records fields) },
+}
+
+// BadCoefficient with index 0 where an outflow is not finite.
 #[tactic(auto, unfolding(scheme::specs::Step::spilled))]
 fn finite_outflows(outflow: &[f64]) -> Answer
     ensures { result ≡ finite_answer outflow.now }
@@ -33,350 +49,175 @@ fn finite_outflows(outflow: &[f64]) -> Answer
     }
 }
 
-// The outflows of a flux and their metrics.
-#[tactic(auto, using(mesh::proofs::Facts::refuses, passes::proofs::Stages::never_accepted), unfolding(mesh::specs::Answers::or_else))]
-fn measure(
-    adjacency: &[usize],
-    places: &[f64],
-    flux: &[f64],
-    outflow: &mut [f64],
-    metrics: &mut [f64],
-) -> Answer
-    requires flows { Flows (length outflow.old) adjacency.now flux.now }
-    requires places_len { (length places.now ≡ 4 * length outflow.old) × (length outflow.old ≤ largest_count) × (length metrics.old ≡ 2) }
-    ensures answer { let sums = outflows (length outflow.old) adjacency.now flux.now in
-        result ≡ or_else (metrics_answer (metrics_of places.now sums)) (finite_answer sums) }
-    ensures contents { let sums = outflows (length outflow.old) adjacency.now flux.now in
-        let metric = metrics_of places.now sums in
-        IfAccepted result ((outflow.new ≡ sums) × (metrics.new ≡ metrics_numbers metric)) }
-{
-    corrector::inner::metrics::continuity_metrics(adjacency, places, flux, outflow, metrics)?;
-    finite_outflows(outflow)
-}
+impl<'a> Work<'a> {
+    ghost use Rattle.numerics.specs.Bundles.{slices_of};
+    ghost use Rattle.stencil.specs.Bundles.{slices_in};
+    ghost use Rattle.stencil.specs.Bundles.{Same as SameSlices};
+    ghost use Rattle.step.specs.Bundles.{outputs_of, Same};
+    ghost use Rattle.step.specs.Work.{inputs_in};
 
-// The coefficients of all faces, of which those with two cells stand there already, and the flux that
-// is corrected with them.
-#[tactic(auto, using(mesh::proofs::Facts::refuses, passes::proofs::Stages::never_accepted), unfolding(mesh::specs::Answers::or_else))]
-fn correct(
-    adjacency: &[usize],
-    geometry: &[f64],
-    places: &[f64],
-    codes: &[usize],
-    values: &[f64],
-    responses: &[f64],
-    predicted: &[f64],
-    corrections: &[f64],
-    coefficients: &mut [f64],
-    flux: &mut [f64],
-) -> Answer
-    requires coupled { Coupled (grid adjacency.now geometry.now places.now) (length responses.now) (length coefficients.old) }
-    requires bounded { Bounded (bounds codes.now values.now) (length coefficients.old) }
-    requires begun { Begun (grid adjacency.now geometry.now places.now) responses.now coefficients.old }
-    requires correctable { let lent = correcting adjacency.now codes.now values.now in
-        Correctable (lent predicted.now coefficients.old corrections.now) }
-    requires flux_len { length flux.old ≡ length predicted.now }
-    ensures answer { let m = grid_lent adjacency geometry places in
-        let k = bounds_lent codes values in
-        let n = length coefficients.old in
-        let c = boundary_coefficients m k responses.now n in
-        let lent = correcting adjacency.now codes.now values.now in
-        let x = lent predicted.now c corrections.now in
-        result ≡ or_else (boundary_answer m k responses.now n) (correction_answer x) }
-    ensures contents { let m = grid_lent adjacency geometry places in
-        let k = bounds_lent codes values in
-        let n = length coefficients.old in
-        let c = boundary_coefficients m k responses.now n in
-        let lent = correcting adjacency.now codes.now values.now in
-        let x = lent predicted.now c corrections.now in
-        IfAccepted result ((coefficients.new ≡ c) × (flux.new ≡ corrected_fluxes x)) }
-{
-    predictor::inner::boundary::complete(
-        adjacency,
-        geometry,
-        places,
-        codes,
-        values,
-        responses,
-        coefficients,
-    )?;
-    corrector::inner::correction::correct_face_flux(
-        adjacency,
-        codes,
-        values,
-        predicted,
-        coefficients,
-        corrections,
-        flux,
-    )
-}
-
-// The stencil, the gradient of the pressure by it, and the flux that is predicted with that and with
-// the coefficients of the faces with two cells, which are left in `coefficients`.
-#[tactic(auto, using(mesh::proofs::Facts::refuses, passes::proofs::Stages::never_accepted), unfolding(mesh::specs::Answers::or_else))]
-fn predict(
-    counts: Counts,
-    adjacency: &[usize],
-    geometry: &[f64],
-    heads: &[usize],
-    places: &[f64],
-    facing: &[usize],
-    bordering: &[usize],
-    codes: &[usize],
-    values: &[f64],
-    records: usize,
-    velocities: &[f64],
-    pressures: &[f64],
-    responses: &[f64],
-    walls: &[f64],
-    coefficients: &mut [f64],
-    starts: &mut [usize],
-    equations: &mut [usize],
-    weights: &mut [f64],
-    inverses: &mut [f64],
-    gradient: &mut [f64],
-    predicted: &mut [f64],
-) -> Answer
-    requires buildable { Buildable (lent_now counts adjacency geometry heads places facing bordering codes values) }
-    requires sized { (length starts.old ≡ counts.cells)
-        × (length equations.old ≡ 2 * records)
-        × (length weights.old ≡ 4 * records)
-        × (length inverses.old ≡ 9 * counts.cells)
-        × (records ≤ largest_count) }
-    requires flowing { let m = grid adjacency.now geometry.now places.now in
-        let q = flow velocities.now pressures.now gradient.old responses.now in
-        Flowing m q (length walls.now) }
-    requires long { (length pressures.now ≡ counts.cells)
-        × (length predicted.old ≡ length walls.now)
-        × (length coefficients.old ≡ length walls.now) }
-    ensures answer { let l = lent_before counts adjacency geometry heads places facing bordering codes values in
-        let m = grid_lent adjacency geometry places in
-        let p = pressures.now in
-        let g = gradients (stencil_slices l records) records p (length p) in
-        let q = flow velocities.now p g responses.now in
-        result ≡ or_else (stencil_answer l records) (prediction_answer m q walls.now) }
-    ensures stencil { let l = lent_before counts adjacency geometry heads places facing bordering codes values in
-        IfAccepted result (slices_after starts equations weights inverses ≡ stencil_slices l records) }
-    ensures contents { let l = lent_before counts adjacency geometry heads places facing bordering codes values in
-        let m = grid_lent adjacency geometry places in
-        let p = pressures.now in
-        let g = gradients (stencil_slices l records) records p (length p) in
-        let q = flow velocities.now p g responses.now in
-        IfAccepted result ((gradient.new ≡ g) × (predicted.new ≡ predicted_fluxes m q walls.now)) }
-    ensures begun { let m = grid_lent adjacency geometry places in
-        IfAccepted result (Begun m responses.now coefficients.new) }
-{
-    stencil::inner::build::least_squares_stencil(
-        counts, adjacency, geometry, heads, places, facing, bordering, codes, values, records,
-        starts, equations, weights, inverses,
-    )?;
-    predictor::inner::prediction::rhie_chow_predicted_flux(
-        adjacency,
-        geometry,
-        places,
-        records,
-        starts,
-        equations,
-        weights,
-        inverses,
-        velocities,
-        pressures,
-        responses,
-        walls,
-        coefficients,
-        gradient,
-        predicted,
-    )
-}
-
-// All parts up to the first refusal.
-#[tactic(auto, using(mesh::proofs::Facts::refuses, passes::proofs::Stages::never_accepted), unfolding(mesh::specs::Answers::or_else))]
-fn run(
-    counts: Counts,
-    adjacency: &[usize],
-    geometry: &[f64],
-    heads: &[usize],
-    places: &[f64],
-    facing: &[usize],
-    bordering: &[usize],
-    codes: &[usize],
-    values: &[f64],
-    records: usize,
-    velocities: &[f64],
-    pressures: &[f64],
-    responses: &[f64],
-    walls: &[f64],
-    corrections: &[f64],
-    starts: &mut [usize],
-    equations: &mut [usize],
-    weights: &mut [f64],
-    inverses: &mut [f64],
-    gradient: &mut [f64],
-    predicted: &mut [f64],
-    coefficients: &mut [f64],
-    flux: &mut [f64],
-    outflow: &mut [f64],
-    metrics: &mut [f64],
-) -> Answer
-    requires lendable { let m = mesh_now counts adjacency geometry heads places facing bordering in
-        Lendable (alike_now m codes values records velocities pressures responses walls corrections) }
-    requires fit { let old = outputs_now starts equations weights inverses gradient predicted coefficients flux outflow metrics in
-        OutputsFit counts records old }
-    ensures answer { let m = mesh_lent counts adjacency geometry heads places facing bordering in
-        let d = alike_lent m codes values records velocities pressures responses walls corrections in
-        result ≡ work_answer d }
-    ensures contents { let m = mesh_lent counts adjacency geometry heads places facing bordering in
-        let d = alike_lent m codes values records velocities pressures responses walls corrections in
-        let new = outputs_after starts equations weights inverses gradient predicted coefficients flux outflow metrics in
-        IfAccepted result (new ≡ results d) }
-{
-    predict(
-        counts,
-        adjacency,
-        geometry,
-        heads,
-        places,
-        facing,
-        bordering,
-        codes,
-        values,
-        records,
-        velocities,
-        pressures,
-        responses,
-        walls,
-        coefficients,
-        starts,
-        equations,
-        weights,
-        inverses,
-        gradient,
-        predicted,
-    )?;
-    correct(
-        adjacency,
-        geometry,
-        places,
-        codes,
-        values,
-        responses,
-        predicted,
-        corrections,
-        coefficients,
-        flux,
-    )?;
-    measure(adjacency, places, flux, outflow, metrics)
-}
-
-// 0 and +0.0 throughout.
-fn clear(
-    starts: &mut [usize],
-    equations: &mut [usize],
-    weights: &mut [f64],
-    inverses: &mut [f64],
-    gradient: &mut [f64],
-    predicted: &mut [f64],
-    coefficients: &mut [f64],
-    flux: &mut [f64],
-    outflow: &mut [f64],
-    metrics: &mut [f64],
-)
-    ensures contents { let old = outputs_before starts equations weights inverses gradient predicted coefficients flux outflow metrics in
-        let new = outputs_after starts equations weights inverses gradient predicted coefficients flux outflow metrics in
-        new ≡ cleared old }
-{
-    starts.fill(0);
-    equations.fill(0);
-    mesh::clear(weights);
-    mesh::clear(inverses);
-    mesh::clear(gradient);
-    mesh::clear(predicted);
-    mesh::clear(coefficients);
-    mesh::clear(flux);
-    mesh::clear(outflow);
-    mesh::clear(metrics);
-}
-
-// The whole work; a refusal clears every output.
-pub(crate) fn carry_out(
-    counts: Counts,
-    adjacency: &[usize],
-    geometry: &[f64],
-    heads: &[usize],
-    places: &[f64],
-    facing: &[usize],
-    bordering: &[usize],
-    codes: &[usize],
-    values: &[f64],
-    records: usize,
-    velocities: &[f64],
-    pressures: &[f64],
-    responses: &[f64],
-    walls: &[f64],
-    corrections: &[f64],
-    starts: &mut [usize],
-    equations: &mut [usize],
-    weights: &mut [f64],
-    inverses: &mut [f64],
-    gradient: &mut [f64],
-    predicted: &mut [f64],
-    coefficients: &mut [f64],
-    flux: &mut [f64],
-    outflow: &mut [f64],
-    metrics: &mut [f64],
-) -> Answer
-    requires lendable { let m = mesh_now counts adjacency geometry heads places facing bordering in
-        Lendable (alike_now m codes values records velocities pressures responses walls corrections) }
-    requires fit { let old = outputs_now starts equations weights inverses gradient predicted coefficients flux outflow metrics in
-        OutputsFit counts records old }
-    ensures answer { let m = mesh_lent counts adjacency geometry heads places facing bordering in
-        let d = alike_lent m codes values records velocities pressures responses walls corrections in
-        result ≡ work_answer d }
-    ensures contents { let m = mesh_lent counts adjacency geometry heads places facing bordering in
-        let d = alike_lent m codes values records velocities pressures responses walls corrections in
-        let old = outputs_before starts equations weights inverses gradient predicted coefficients flux outflow metrics in
-        let new = outputs_after starts equations weights inverses gradient predicted coefficients flux outflow metrics in
-        new ≡ if_refused result (cleared old) (results d) }
-{
-    if let Err(refusal) = run(
-        counts,
-        adjacency,
-        geometry,
-        heads,
-        places,
-        facing,
-        bordering,
-        codes,
-        values,
-        records,
-        velocities,
-        pressures,
-        responses,
-        walls,
-        corrections,
-        starts,
-        equations,
-        weights,
-        inverses,
-        gradient,
-        predicted,
-        coefficients,
-        flux,
-        outflow,
-        metrics,
-    ) {
-        clear(
-            starts,
-            equations,
-            weights,
-            inverses,
-            gradient,
-            predicted,
-            coefficients,
-            flux,
-            outflow,
-            metrics,
-        );
-        return Err(refusal);
+    fn coupling(&self) -> Coupling<'a>
+        ensures grid { result.grid ≡ grid_in self.now.mesh }
+        ensures responses { result.responses ≡ self.now.fields.responses.values }
+    {
+        Coupling {
+            grid: self.mesh.grid(),
+            responses: self.fields.responses.values,
+        }
     }
-    Ok(())
+
+    fn build(&self, slices: &mut StencilMut<'_>) -> Answer
+        requires sized { let d = inputs_in self.now in
+            (slices.old.records ≡ d.records) × SlicesSized (lent_of d.mesh d.conditions) d.records (slices_in slices.old) }
+        ensures answer { let d = inputs_in self.now in
+            result ≡ stencil_answer (lent_of d.mesh d.conditions) d.records }
+        ensures contents { let d = inputs_in self.now in
+            slices_in slices.new ≡ stencil_of d }
+        ensures sized { let d = inputs_in self.now in
+            SlicesSized (lent_of d.mesh d.conditions) d.records (slices_in slices.new) }
+        ensures same { SameSlices slices.old slices.new }
+    {
+        let lent = Domain {
+            mesh: self.mesh,
+            bounds: self.conditions.bounds(),
+        };
+        lent.least_squares_stencil(slices)
+    }
+
+    // The gradient of the pressure by the stencil, and the flux that is predicted with that and with the
+    // coefficients of the faces with two cells, which are left in `coefficients`.
+    fn predict(
+        &self,
+        stencil: &Stencil<'_>,
+        coefficients: &mut [f64],
+        gradient: &mut [f64],
+        predicted: &mut [f64],
+    ) -> Answer
+        requires built { let d = inputs_in self.now in
+            let l = lent_of d.mesh d.conditions in
+            (stencil_answer l d.records ≡ accepted) × (stencil.now.records ≡ d.records) × (slices_of stencil.now ≡ stencil_of d) }
+        requires sized { let d = inputs_in self.now in
+            SlicesSized (lent_of d.mesh d.conditions) d.records (slices_of stencil.now) }
+        requires long { let n = self.now.mesh.counts in
+            (length coefficients.old ≡ n.faces) × (length gradient.old ≡ 3 * n.cells) × (length predicted.old ≡ n.faces) }
+        ensures answer { let d = inputs_in self.now in
+            result ≡ prediction_answer (grid_of d) (flow_of d) d.walls.values }
+        ensures contents { let d = inputs_in self.now in
+            IfAccepted result ((gradient.new ≡ gradient_of d) × (predicted.new ≡ predicted_of d)) }
+        ensures begun { let d = inputs_in self.now in
+            IfAccepted result (Begun (grid_of d) d.responses.values coefficients.new) }
+    {
+        let slope = Slope {
+            stencil: *stencil,
+            field: self.fields.pressure.values,
+        };
+        let momentum = Momentum {
+            coupling: self.coupling(),
+            slope,
+            velocity: self.fields.velocity.values,
+            walls: self.fields.walls.values,
+        };
+        momentum.rhie_chow_predicted_flux(coefficients, gradient, predicted)
+    }
+
+    // The coefficients of all faces, of which those with two cells stand there already, and the flux that is
+    // corrected with them.
+    #[tactic(auto, using(mesh::proofs::Facts::refuses, passes::proofs::Stages::never_accepted), unfolding(mesh::specs::Answers::or_else))]
+    fn correct(&self, predicted: &[f64], coefficients: &mut [f64], flux: &mut [f64]) -> Answer
+        requires predicted { let d = inputs_in self.now in
+            predicted.now ≡ predicted_of d }
+        requires begun { let d = inputs_in self.now in
+            Begun (grid_of d) d.responses.values coefficients.old }
+        requires long { let n = self.now.mesh.counts in
+            (length coefficients.old ≡ n.faces) × (length flux.old ≡ n.faces) }
+        ensures answer { let d = inputs_in self.now in
+            let c = boundary_answer (grid_of d) (bounds_of d.conditions) d.responses.values d.mesh.counts.faces in
+            result ≡ or_else c (correction_answer (correcting_of d)) }
+        ensures contents { let d = inputs_in self.now in
+            IfAccepted result ((coefficients.new ≡ coefficients_of d) × (flux.new ≡ fluxes_of d)) }
+    {
+        let bounds = self.conditions.bounds();
+        let boundary = Boundary {
+            coupling: self.coupling(),
+            bounds,
+        };
+        boundary.complete(coefficients)?;
+        let correction = Correction {
+            faces: self.mesh.grid().faces(),
+            bounds,
+            coefficients: &*coefficients,
+            values: self.fields.correction.values,
+        };
+        correction.correct_face_flux(predicted, flux)
+    }
+
+    // The outflows of the corrected flux, and their metrics.
+    #[tactic(auto, using(mesh::proofs::Facts::refuses, passes::proofs::Stages::never_accepted), unfolding(mesh::specs::Answers::or_else))]
+    fn measure(&self, flux: &[f64], outflow: &mut [f64], metrics: &mut [f64]) -> Answer
+        requires flux { let d = inputs_in self.now in
+            flux.now ≡ fluxes_of d }
+        requires long { (length outflow.old ≡ self.now.mesh.counts.cells) × (length metrics.old ≡ 2) }
+        ensures answer { let d = inputs_in self.now in
+            let sums = outflows_of d in
+            result ≡ or_else (metrics_answer (metrics_of d.mesh.places sums)) (finite_answer sums) }
+        ensures contents { let d = inputs_in self.now in
+            let sums = outflows_of d in
+            IfAccepted result ((outflow.new ≡ sums) × (metrics.new ≡ metrics_numbers (metrics_of d.mesh.places sums))) }
+        ensures numbers { Binary64 flux.now }
+    {
+        let flux = Flux {
+            faces: self.mesh.grid().faces(),
+            values: flux,
+        };
+        corrector::inner::metrics::continuity_metrics(&flux, self.mesh.places, outflow, metrics)?;
+        finite_outflows(outflow)
+    }
+
+    // All parts up to the first refusal.
+    #[tactic(auto, using(mesh::proofs::Facts::refuses, passes::proofs::Stages::never_accepted), unfolding(mesh::specs::Answers::or_else))]
+    fn run(&self, out: &mut Outputs<'_>) -> Answer
+        requires fit { OutputsFit self.now.mesh.counts self.now.records (outputs_of out.old) }
+        ensures answer { result ≡ work_answer (inputs_in self.now) }
+        ensures contents { let d = inputs_in self.now in
+            IfAccepted result (outputs_of out.new ≡ results d) }
+        ensures numbers { IfAccepted result (Binary64 out.new.flux.now) }
+        ensures fit { OutputsFit self.now.mesh.counts self.now.records (outputs_of out.new) }
+        ensures same { Same out.old out.new }
+    {
+        let gradient = &mut *out.gradient;
+        let predicted = &mut *out.predicted;
+        let coefficients = &mut *out.coefficients;
+        let flux = &mut *out.flux;
+        let outflow = &mut *out.outflow;
+        let metrics = &mut *out.metrics;
+        let mut slices = StencilMut {
+            records: self.records,
+            starts: &mut *out.starts,
+            equations: &mut *out.equations,
+            weights: &mut *out.weights,
+            inverses: &mut *out.inverses,
+        };
+        self.build(&mut slices)?;
+        let stencil = slices.stencil(self.mesh.counts.mesh);
+        self.predict(&stencil, coefficients, gradient, predicted)?;
+        self.correct(predicted, coefficients, flux)?;
+        self.measure(flux, outflow, metrics)
+    }
+
+    // The whole work; a refusal clears every output.
+    pub(crate) fn carry_out(&self, out: &mut Outputs<'_>) -> Answer
+        requires fit { OutputsFit self.now.mesh.counts self.now.records (outputs_of out.old) }
+        ensures answer { result ≡ work_answer (inputs_in self.now) }
+        ensures contents { let d = inputs_in self.now in
+            outputs_of out.new ≡ if_refused result (cleared (outputs_of out.old)) (results d) }
+        ensures demanded { let d = inputs_in self.now in
+            Demanded result d out.new.flux.now out.new.outflow.now }
+        ensures same { Same out.old out.new }
+    {
+        if let Err(refusal) = self.run(out) {
+            out.clear();
+            return Err(refusal);
+        }
+        Ok(())
+    }
 }

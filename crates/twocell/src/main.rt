@@ -3,24 +3,32 @@
 // expected output, the crate's file `stdout`, is document 01's.
 #![tactic(auto)]
 
-use mesh::{Answer, Counts};
+use mesh::{Answer, Conditions, Counts, Faces, Field};
 use refusal::Refusal;
+use simple::Corrections;
 use std::{fmt, io};
 
 // The mesh's number, which every slice has too.
 const MESH: u64 = 1;
 
-const COUNTS: Counts = Counts {
-    mesh: MESH,
-    dimension: 2,
-    cells: 2,
-    faces: 3,
-    facings: 4,
-    borderings: 2,
+// The owner of each face, and its neighbour + 1.
+const FACES: Faces<'static> = Faces {
+    counts: Counts {
+        mesh: MESH,
+        dimension: 2,
+        cells: 2,
+        faces: 3,
+        facings: 4,
+        borderings: 2,
+    },
+    adjacency: &[0, 2, 0, 0, 1, 0],
 };
 
-// The owner of each face, and its neighbour + 1.
-const ADJACENCY: [usize; 6] = [0, 2, 0, 0, 1, 0];
+const CONDITIONS: Conditions<'static> = Conditions {
+    number: MESH,
+    codes: &[0, 0, 2, 0, 2, 0],
+    values: &[0.0; 12],
+};
 
 // A line for each number: its place, and the 16 hex digits of its pattern.
 #[derive(Clone, Copy)]
@@ -35,7 +43,7 @@ impl fmt::Display for Rows<'_> {
     }
 }
 
-// The flux of each face, and the outflow of each cell.
+// The flux of each face, and the outflow of each cell: arrays, since a sheet has three faces and two cells.
 #[derive(Clone, Copy)]
 struct Sheet {
     flux: [f64; 3],
@@ -49,28 +57,29 @@ impl fmt::Display for Sheet {
     }
 }
 
+// Floats with the number of this program's mesh; `edges` has the same for its own, a number that no library
+// knows.
+const fn field(values: &[f64]) -> Field<'_> {
+    Field {
+        number: MESH,
+        values,
+    }
+}
+
 fn correct(flux: &mut [f64; 3]) -> Answer {
-    simple::correct_face_flux_with_boundary(
-        COUNTS,
-        &ADJACENCY,
-        MESH,
-        &[0, 0, 2, 0, 2, 0],
-        &[0.0; 12],
-        MESH,
-        &[2.0, -1.0, 1.0],
-        MESH,
-        &[0.5, 0.0, 0.0],
-        MESH,
-        &[1.0, 3.0],
-        flux,
-    )
+    let fields = Corrections {
+        coefficients: field(&[0.5, 0.0, 0.0]),
+        correction: field(&[1.0, 3.0]),
+    };
+    let predicted = field(&[2.0, -1.0, 1.0]);
+    simple::correct_face_flux_with_boundary(&FACES, &CONDITIONS, &predicted, &fields, flux)
 }
 
 fn computed() -> Result<Sheet, Refusal> {
     let mut flux = [0.0; 3];
     let mut outflow = [0.0; 2];
     correct(&mut flux)?;
-    numerics::integrated_divergence(COUNTS, &ADJACENCY, MESH, &flux, &mut outflow)?;
+    numerics::integrated_divergence(&FACES, &field(&flux), &mut outflow)?;
     Ok(Sheet { flux, outflow })
 }
 

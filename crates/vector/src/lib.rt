@@ -14,7 +14,8 @@ pub struct Vec3 {
     pub z: f64,
 }
 
-// The larger of two numbers.
+// The larger of two numbers, by one comparison: `binary64::max` looks for a NaN besides.
+#[tactic(auto, unfolding(crate::specs::Vector::greater))]
 fn larger(a: f64, b: f64) -> f64
     ensures { result ≡ greater a b }
 {
@@ -22,6 +23,7 @@ fn larger(a: f64, b: f64) -> f64
 }
 
 impl Vec3 {
+    #[tactic(auto, unfolding(crate::specs::Vector::dot))]
     pub fn dot(self, other: Vec3) -> f64
         ensures { result ≡ dot self other }
     {
@@ -36,6 +38,7 @@ impl Vec3 {
 
     // The largest of the components and of their negations: of a vector along an axis, or near one, it
     // is the length.
+    #[tactic(auto, unfolding(crate::specs::Vector::longest))]
     pub fn longest(self) -> f64
         ensures { result ≡ longest self }
     {
@@ -45,12 +48,14 @@ impl Vec3 {
         )
     }
 
+    #[tactic(auto, unfolding(crate::specs::Vector::norm))]
     pub fn norm(self) -> f64
         ensures { result ≡ norm self }
     {
         binary64::sqrt_guessed(self.dot(self), self.longest())
     }
 
+    #[tactic(auto, unfolding(crate::specs::Vector::sum))]
     pub fn add(self, other: Vec3) -> Vec3
         ensures { result ≡ sum self other }
     {
@@ -61,6 +66,7 @@ impl Vec3 {
         }
     }
 
+    #[tactic(auto, unfolding(crate::specs::Vector::difference))]
     pub fn sub(self, other: Vec3) -> Vec3
         ensures { result ≡ difference self other }
     {
@@ -71,6 +77,7 @@ impl Vec3 {
         }
     }
 
+    #[tactic(auto, unfolding(crate::specs::Vector::scaled))]
     pub fn scale(self, factor: f64) -> Vec3
         ensures { result ≡ scaled self factor }
     {
@@ -81,6 +88,7 @@ impl Vec3 {
         }
     }
 
+    #[tactic(auto, unfolding(crate::specs::Vector::quotient))]
     pub fn div(self, divisor: f64) -> Vec3
         ensures { result ≡ quotient self divisor }
     {

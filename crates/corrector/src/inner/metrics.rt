@@ -2,10 +2,11 @@
 ghost use Rattle.std.specs.Prelude.{◌≡◌, ◌+◌, ◌*◌, ◌<◌, ◌≤◌, length};
 ghost use Rattle.mesh.specs.Checks.{largest_count};
 ghost use Rattle.mesh.specs.Pass.{handed_out, first_refusal};
-ghost use Rattle.numerics.specs.Outflow.{Flows, outflows};
+ghost use Rattle.numerics.specs.Outflow.{outflows};
 ghost use Rattle.corrector.specs.Metrics.{squared_sum, root_mean_square, divergence_at, largest, index_in, measured_by, metrics_of, metrics_answer, metrics_numbers};
 
 use mesh::{Answer, Outcome};
+use numerics::inner::outflow::Flux;
 use refusal::{Reason, Refusal};
 
 #[derive(Clone, Copy)]
@@ -14,18 +15,12 @@ pub struct Metrics {
     pub largest: f64,
 }
 
-fn squared_sum(outflow: &[f64]) -> f64
-    ensures { result ≡ squared_sum outflow.now }
-{
-    outflow.iter().fold(0.0, |sum, x| sum + *x * *x)
-}
-
-#[tactic(auto, unfolding(crate::specs::Metrics::root_mean_square))]
-fn root_mean_square(outflow: &[f64]) -> f64
-    requires { length outflow.now ≤ largest_count }
-    ensures { result ≡ root_mean_square outflow.now }
-{
-    binary64::sqrt(squared_sum(outflow) / outflow.len() as f64)
+// The outflow of each cell, beside the records of the places.
+#[derive(Clone, Copy)]
+struct Cells<'a> {
+    places: &'a [f64],
+    outflow: &'a [f64],
+    ghost sized: { (length places.now ≡ 4 * length outflow.now) × (length outflow.now ≤ largest_count) },
 }
 
 // The index of a refusal of the cell c: a bad coefficient names none.
@@ -39,57 +34,76 @@ fn index_in(reason: Reason, c: usize) -> usize
     }
 }
 
-#[tactic(auto, unfolding(crate::specs::Metrics::divergence_at))]
-fn divergence_at(places: &[f64], outflow: &[f64], c: usize) -> Outcome
-    requires { (4 * c + 3 < length places.now) × (c < length outflow.now) }
-    ensures { result ≡ divergence_at places.now outflow.now c }
-{
-    let cell = mesh::inner::cell_at(places, c);
-    coupling::divergence(outflow[c], cell.volume)
-}
+impl<'a> Cells<'a> {
+    fn squared_sum(&self) -> f64
+        ensures { result ≡ squared_sum self.now.outflow.now }
+    {
+        self.outflow.iter().fold(0.0, |sum, x| sum + *x * *x)
+    }
 
-// The largest divergence beside a root mean square.
-#[tactic(auto, using(mesh::proofs::Items::refused_at), unfolding(crate::specs::Metrics::measured_by, crate::specs::Metrics::largest, mesh::specs::Pass::first_refusal, mesh::specs::Pass::after, mesh::specs::Pass::value_of))]
-fn measure(places: &[f64], outflow: &[f64], rms: f64) -> Result<Metrics, Refusal>
-    requires { length places.now ≡ 4 * length outflow.now }
-    ensures answer { let g = divergence_at places.now outflow.now in
-        let n = length outflow.now in
-        result ≡ measured_by (first_refusal g n) rms (largest g n) }
-{
-    let mut maximum = 0.0;
-    for c in 0..outflow.len() {
-        match divergence_at(places, outflow, c) {
-            Ok(d) => maximum = binary64::max(maximum, d),
-            Err(reason) => return Err(reason.at(index_in(reason, c))),
+    #[tactic(auto, unfolding(crate::specs::Metrics::root_mean_square))]
+    fn root_mean_square(&self) -> f64
+        ensures { result ≡ root_mean_square self.now.outflow.now }
+    {
+        binary64::sqrt(self.squared_sum() / self.outflow.len() as f64)
+    }
+
+    #[tactic(auto, unfolding(crate::specs::Metrics::divergence_at))]
+    fn divergence_at(&self, c: usize) -> Outcome
+        requires { c < length self.now.outflow.now }
+        ensures { result ≡ divergence_at self.now.places.now self.now.outflow.now c }
+    {
+        let cell = mesh::inner::cell_at(self.places, c);
+        coupling::divergence(self.outflow[c], cell.volume)
+    }
+
+    // The largest divergence beside a root mean square. With `map_err` and `?` in place of the `match` the proof of what
+    // a refusal returns does not close without an answer.
+    #[tactic(auto, using(mesh::proofs::Facts::refused_at), unfolding(crate::specs::Metrics::measured_by, crate::specs::Metrics::largest, mesh::specs::Pass::first_refusal, mesh::specs::Pass::after, mesh::specs::Pass::value_of))]
+    fn measure(&self, rms: f64) -> Result<Metrics, Refusal>
+        ensures answer { let g = divergence_at self.now.places.now self.now.outflow.now in
+            let n = length self.now.outflow.now in
+            result ≡ measured_by (first_refusal g n) rms (largest g n) }
+    {
+        let mut maximum = 0.0;
+        for c in 0..self.outflow.len() {
+            match self.divergence_at(c) {
+                Ok(d) => maximum = binary64::max(maximum, d),
+                Err(reason) => return Err(reason.at(index_in(reason, c))),
+            }
         }
+        Ok(Metrics {
+            root_mean_square: rms,
+            largest: maximum,
+        })
     }
-    Ok(Metrics {
-        root_mean_square: rms,
-        largest: maximum,
-    })
-}
 
-#[tactic(auto, unfolding(crate::specs::Metrics::metrics_of))]
-fn metrics_of(places: &[f64], outflow: &[f64]) -> Result<Metrics, Refusal>
-    requires { (length places.now ≡ 4 * length outflow.now) × (length outflow.now ≤ largest_count) }
-    ensures { result ≡ metrics_of places.now outflow.now }
-{
-    let rms = root_mean_square(outflow);
-    if !binary64::finite(rms) {
-        return Err(Reason::BadCoefficient.at(0));
+    #[tactic(auto, unfolding(crate::specs::Metrics::metrics_of))]
+    fn metrics_of(&self) -> Result<Metrics, Refusal>
+        ensures { result ≡ metrics_of self.now.places.now self.now.outflow.now }
+    {
+        let rms = self.root_mean_square();
+        if !binary64::finite(rms) {
+            return Err(Reason::BadCoefficient.at(0));
+        }
+        self.measure(rms)
     }
-    measure(places, outflow, rms)
 }
 
 // The metrics of outflows that are there; a refusal clears both.
 #[tactic(auto, unfolding(crate::specs::Metrics::metrics_answer, crate::specs::Metrics::metrics_numbers, mesh::specs::Pass::handed_out))]
 pub fn outflow_metrics(places: &[f64], outflow: &mut [f64], metrics: &mut [f64]) -> Answer
-    requires { (length places.now ≡ 4 * length outflow.old) × (length outflow.old ≤ largest_count) × (length metrics.old ≡ 2) }
+    requires few { (length places.now ≡ 4 * length outflow.old) × (length outflow.old ≤ largest_count) }
+    requires pair { length metrics.old ≡ 2 }
     ensures value { result ≡ metrics_answer (metrics_of places.now outflow.old) }
     ensures outflow_after { outflow.new ≡ handed_out result (length outflow.old) outflow.old }
     ensures metrics_after { metrics.new ≡ metrics_numbers (metrics_of places.now outflow.old) }
 {
-    match metrics_of(places, outflow) {
+    let cells = Cells {
+        places,
+        outflow: &*outflow,
+    };
+    match cells.metrics_of() {
         Ok(measured) => {
             metrics.copy_from_slice(&[measured.root_mean_square, measured.largest]);
             Ok(())
@@ -102,23 +116,26 @@ pub fn outflow_metrics(places: &[f64], outflow: &mut [f64], metrics: &mut [f64])
     }
 }
 
+// The outflows of a flux and their metrics.
 pub fn continuity_metrics(
-    adjacency: &[usize],
+    flux: &Flux<'_>,
     places: &[f64],
-    flux: &[f64],
     outflow: &mut [f64],
     metrics: &mut [f64],
 ) -> Answer
-    requires flows { Flows (length outflow.old) adjacency.now flux.now }
-    requires places_len { (length places.now ≡ 4 * length outflow.old) × (length outflow.old ≤ largest_count) × (length metrics.old ≡ 2) }
-    ensures answer { let sums = outflows (length outflow.old) adjacency.now flux.now in
-        let metric = metrics_of places.now sums in
-        result ≡ metrics_answer metric }
-    ensures sums { let n = length outflow.old in
-        outflow.new ≡ handed_out result n (outflows n adjacency.now flux.now) }
-    ensures numbers { let sums = outflows (length outflow.old) adjacency.now flux.now in
+    requires outflow_len { length outflow.old ≡ flux.now.faces.counts.cells }
+    requires few { (length places.now ≡ 4 * length outflow.old) × (length outflow.old ≤ largest_count) }
+    requires pair { length metrics.old ≡ 2 }
+    ensures answer { let m = flux.now.faces in
+        let sums = outflows m.counts.cells m.adjacency.now flux.now.values.now in
+        result ≡ metrics_answer (metrics_of places.now sums) }
+    ensures sums { let m = flux.now.faces in
+        let sums = outflows m.counts.cells m.adjacency.now flux.now.values.now in
+        outflow.new ≡ handed_out result m.counts.cells sums }
+    ensures numbers { let m = flux.now.faces in
+        let sums = outflows m.counts.cells m.adjacency.now flux.now.values.now in
         metrics.new ≡ metrics_numbers (metrics_of places.now sums) }
 {
-    numerics::inner::outflow::integrated_divergence(adjacency, flux, outflow);
+    flux.integrated_divergence(outflow);
     outflow_metrics(places, outflow, metrics)
 }

@@ -1,240 +1,164 @@
 // The coefficients of all faces, those with two cells first.
-ghost use Rattle.std.specs.Prelude.{◌≡◌, ◌<◌, length, Ok};
+ghost use Rattle.std.specs.Prelude.{◌≡◌, ◌+◌, ◌<◌, length, Ok};
 ghost use Rattle.mesh.specs.Pass.{handed_out};
-ghost use Rattle.mesh.specs.Lent.{bounds_lent};
-ghost use Rattle.mesh.specs.Mesh.{bounds};
-ghost use Rattle.mesh.specs.Records.{peer_at};
+ghost use Rattle.mesh.specs.Bundles.{bounds_of_lent};
+ghost use Rattle.mesh.specs.Records.{peer_at, condition_at};
 ghost use Rattle.predictor.specs.Boundary.{Bounded, Begun, by_condition, linked_at, boundary_at, coefficient_at, boundary_answer, boundary_coefficients};
 ghost use Rattle.predictor.specs.Coefficients.{internal_at};
-ghost use Rattle.coupling.specs.Grid.{grid, grid_lent, Coupled};
+ghost use Rattle.coupling.specs.Grid.{grid_of_lent};
 ghost use Rattle.passes.specs.Staged.{staged, Passes};
 
-use crate::inner::coefficients::{internal_at, pair_at, span_to};
-use mesh::{Answer, Condition, Outcome};
+use crate::inner::coefficients::{Coupling, pair_at, span_to};
+use chain::inner::first_of;
+use mesh::inner::cell_at;
+use mesh::{Answer, Bounds, Condition, Outcome};
 use passes::{Stage, early, late, settle};
 
-// The coefficient of the face f, which has one cell and no link.
-#[tactic(auto, unfolding(crate::specs::Boundary::by_condition))]
-fn by_condition(
-    adjacency: &[usize],
-    geometry: &[f64],
-    places: &[f64],
-    responses: &[f64],
-    faces: usize,
-    f: usize,
-    condition: Condition,
-) -> Outcome
-    requires coupled { Coupled (grid adjacency.now geometry.now places.now) (length responses.now) faces }
-    requires f_lt_faces { f < faces }
-    ensures answer { let m = grid_lent adjacency geometry places in
-        result ≡ by_condition m responses.now f condition }
-{
-    match condition {
-        Condition::Fixed(_) => {
-            let face = mesh::inner::face_at(adjacency, geometry, f);
-            let o = face.owner;
-            let owner = mesh::inner::cell_at(places, o);
-            let away = face.center.sub(owner.center);
-            coupling::fixed_coefficient(face.area, away, responses[o])
-        }
-        Condition::ZeroGradient => Ok(0.0),
-        Condition::Absent => Ok(0.0),
-    }
+// A mesh and the responses of its cells, with the conditions and links of its faces.
+#[derive(Clone, Copy)]
+pub struct Boundary<'a> {
+    pub coupling: Coupling<'a>,
+    pub bounds: Bounds<'a>,
+    pub ghost bounded: { Bounded (bounds_of_lent bounds) coupling.grid.counts.faces },
 }
 
-// The coefficient of the face f, which is linked.
-#[tactic(auto, unfolding(crate::specs::Boundary::linked_at))]
-fn linked_at(
-    adjacency: &[usize],
-    geometry: &[f64],
-    places: &[f64],
-    codes: &[usize],
-    values: &[f64],
-    responses: &[f64],
-    faces: usize,
-    f: usize,
-) -> Outcome
-    requires coupled { Coupled (grid adjacency.now geometry.now places.now) (length responses.now) faces }
-    requires bounded { Bounded (bounds codes.now values.now) faces }
-    requires f_lt_faces { (f < faces) × (0 < peer_at codes.now f) }
-    ensures answer { let m = grid_lent adjacency geometry places in
-        let k = bounds_lent codes values in
-        result ≡ linked_at m k responses.now f }
-{
-    let link = mesh::inner::link_at(codes, values, f);
-    let face = mesh::inner::face_at(adjacency, geometry, f);
-    let n = chain::inner::first_of(adjacency, link.peer - 1);
-    let other = mesh::inner::cell_at(places, n);
-    let span = span_to(face, places, other.center.sub(link.translation));
-    coupling::linked_coefficient(span, pair_at(responses, face.owner, n))
-}
-
-// The coefficient of the face f, which has one cell.
-#[tactic(auto, unfolding(crate::specs::Boundary::boundary_at))]
-fn boundary_at(
-    adjacency: &[usize],
-    geometry: &[f64],
-    places: &[f64],
-    codes: &[usize],
-    values: &[f64],
-    responses: &[f64],
-    faces: usize,
-    f: usize,
-) -> Outcome
-    requires coupled { Coupled (grid adjacency.now geometry.now places.now) (length responses.now) faces }
-    requires bounded { Bounded (bounds codes.now values.now) faces }
-    requires f_lt_faces { f < faces }
-    ensures answer { let m = grid_lent adjacency geometry places in
-        let k = bounds_lent codes values in
-        result ≡ boundary_at m k responses.now f }
-{
-    let peer = chain::inner::second_of(codes, f);
-    if peer == 0 {
-        let condition = mesh::inner::condition_at(codes, values, f);
-        return by_condition(adjacency, geometry, places, responses, faces, f, condition);
-    }
-    linked_at(
-        adjacency, geometry, places, codes, values, responses, faces, f,
-    )
-}
-
-// The coefficient of the face f; a face with two cells refuses before all others.
-#[tactic(auto, unfolding(crate::specs::Boundary::coefficient_at, crate::specs::Coefficients::internal_at, passes::specs::Staged::staged))]
-fn stage_at(
-    adjacency: &[usize],
-    geometry: &[f64],
-    places: &[f64],
-    codes: &[usize],
-    values: &[f64],
-    responses: &[f64],
-    faces: usize,
-    f: usize,
-) -> Stage
-    requires coupled { Coupled (grid adjacency.now geometry.now places.now) (length responses.now) faces }
-    requires bounded { Bounded (bounds codes.now values.now) faces }
-    requires f_lt_faces { f < faces }
-    ensures answer { let m = grid_lent adjacency geometry places in
-        let k = bounds_lent codes values in
-        result ≡ staged (internal_at m responses.now f) (coefficient_at m k responses.now f) }
-{
-    let neighbour = chain::inner::second_of(adjacency, f);
-    if neighbour == 0 {
-        return late(boundary_at(
-            adjacency, geometry, places, codes, values, responses, faces, f,
-        ));
-    }
-    early(internal_at(adjacency, geometry, places, responses, faces, f))
-}
-
-// Writes the coefficients up to the first refusal of a face with two cells.
-fn fill(
-    adjacency: &[usize],
-    geometry: &[f64],
-    places: &[f64],
-    codes: &[usize],
-    values: &[f64],
-    responses: &[f64],
-    out: &mut [f64],
-) -> Answer
-    requires coupled { Coupled (grid adjacency.now geometry.now places.now) (length responses.now) (length out.old) }
-    requires bounded { Bounded (bounds codes.now values.now) (length out.old) }
-    ensures passes { let m = grid_lent adjacency geometry places in
-        let k = bounds_lent codes values in
-        let w = responses.now in
-        let n = length out.old in
-        Passes (boundary_answer m k w n) (boundary_coefficients m k w n) result out.new }
-{
-    let mut late = Ok(());
-    let faces = out.len();
-    for f in 0..faces {
-        match stage_at(
-            adjacency, geometry, places, codes, values, responses, faces, f,
-        ) {
-            Ok(Ok(v)) => out[f] = v,
-            Ok(Err(reason)) => late = late.and(Err(reason.at(f))),
-            Err(reason) => return Err(reason.at(f)),
+// A method asks that its face is there, or that its output is as long as the faces are: of a number and of a slice
+// that are no part of the struct, so that another struct of them would be no plainer.
+impl<'a> Boundary<'a> {
+    // The coefficient of the face f, which has one cell and no link.
+    #[tactic(auto, unfolding(crate::specs::Boundary::by_condition))]
+    fn by_condition(&self, f: usize) -> Outcome
+        requires f_lt_faces { f < self.now.coupling.grid.counts.faces }
+        ensures answer { let m = grid_of_lent self.now.coupling.grid in
+            let k = self.now.bounds in
+            result ≡ by_condition m self.now.coupling.responses.now f (condition_at k.codes.now k.values.now f) }
+    {
+        match self.bounds.condition_at(f) {
+            Condition::Fixed(_) => {
+                let face = self.coupling.grid.face_at(f);
+                let owner = cell_at(self.coupling.grid.places, face.owner);
+                let away = face.center.sub(owner.center);
+                let response = self.coupling.responses[face.owner];
+                coupling::fixed_coefficient(face.area, away, response)
+            }
+            Condition::ZeroGradient | Condition::Absent => Ok(0.0),
         }
     }
-    late
-}
 
-pub fn pressure_face_coefficients_with_boundary(
-    adjacency: &[usize],
-    geometry: &[f64],
-    places: &[f64],
-    codes: &[usize],
-    values: &[f64],
-    responses: &[f64],
-    out: &mut [f64],
-) -> Answer
-    requires coupled { Coupled (grid adjacency.now geometry.now places.now) (length responses.now) (length out.old) }
-    requires bounded { Bounded (bounds codes.now values.now) (length out.old) }
-    ensures answer { let m = grid_lent adjacency geometry places in
-        let k = bounds_lent codes values in
-        result ≡ boundary_answer m k responses.now (length out.old) }
-    ensures contents { let m = grid_lent adjacency geometry places in
-        let k = bounds_lent codes values in
-        let n = length out.old in
-        out.new ≡ handed_out result n (boundary_coefficients m k responses.now n) }
-{
-    let answer = fill(adjacency, geometry, places, codes, values, responses, out);
-    settle(out, answer)
-}
-
-// The coefficient of the face f; that of a face with two cells is `own` already.
-#[tactic(auto, unfolding(crate::specs::Boundary::coefficient_at))]
-fn completed_at(
-    adjacency: &[usize],
-    geometry: &[f64],
-    places: &[f64],
-    codes: &[usize],
-    values: &[f64],
-    responses: &[f64],
-    faces: usize,
-    f: usize,
-    own: f64,
-) -> Outcome
-    requires coupled { Coupled (grid adjacency.now geometry.now places.now) (length responses.now) faces }
-    requires bounded { Bounded (bounds codes.now values.now) faces }
-    requires f_lt_faces { f < faces }
-    requires own { internal_at (grid adjacency.now geometry.now places.now) responses.now f ≡ Ok own }
-    ensures answer { let m = grid_lent adjacency geometry places in
-        let k = bounds_lent codes values in
-        result ≡ coefficient_at m k responses.now f }
-{
-    if chain::inner::second_of(adjacency, f) == 0 {
-        return boundary_at(
-            adjacency, geometry, places, codes, values, responses, faces, f,
-        );
+    // The coefficient of the face f, which is linked with the face `peer`.
+    #[tactic(auto, unfolding(crate::specs::Boundary::linked_at))]
+    fn linked_at(&self, f: usize, peer: usize) -> Outcome
+        requires f_lt_faces { f < self.now.coupling.grid.counts.faces }
+        requires peer { peer_at self.now.bounds.codes.now f ≡ peer + 1 }
+        ensures answer { let m = grid_of_lent self.now.coupling.grid in
+            let k = bounds_of_lent self.now.bounds in
+            result ≡ linked_at m k self.now.coupling.responses.now f }
+    {
+        let grid = self.coupling.grid;
+        let face = grid.face_at(f);
+        let n = first_of(grid.adjacency, peer);
+        let other = cell_at(grid.places, n);
+        let image = other.center.sub(self.bounds.translation_at(f));
+        let responses = pair_at(self.coupling.responses, face.owner, n);
+        coupling::linked_coefficient(span_to(face, grid.places, image), responses)
     }
-    Ok(own)
-}
 
-// Writes the coefficients of the faces with one cell up to the first refusal; those of the faces with
-// two cells stand in `out` already.
-#[tactic(auto, using(crate::proofs::Started::own_coefficient))]
-pub fn complete(
-    adjacency: &[usize],
-    geometry: &[f64],
-    places: &[f64],
-    codes: &[usize],
-    values: &[f64],
-    responses: &[f64],
-    out: &mut [f64],
-) -> Answer
-    requires coupled { Coupled (grid adjacency.now geometry.now places.now) (length responses.now) (length out.old) }
-    requires bounded { Bounded (bounds codes.now values.now) (length out.old) }
-    requires begun { Begun (grid adjacency.now geometry.now places.now) responses.now out.old }
-    ensures passes { let m = grid_lent adjacency geometry places in
-        let k = bounds_lent codes values in
-        let w = responses.now in
-        let n = length out.old in
-        Passes (boundary_answer m k w n) (boundary_coefficients m k w n) result out.new }
-{
-    let faces = out.len();
-    passes::fill(out, |f, own| {
-        completed_at(
-            adjacency, geometry, places, codes, values, responses, faces, f, own,
-        )
-    })
+    // The coefficient of the face f, which has one cell.
+    #[tactic(auto, unfolding(crate::specs::Boundary::boundary_at))]
+    fn boundary_at(&self, f: usize) -> Outcome
+        requires f_lt_faces { f < self.now.coupling.grid.counts.faces }
+        ensures answer { let m = grid_of_lent self.now.coupling.grid in
+            let k = bounds_of_lent self.now.bounds in
+            result ≡ boundary_at m k self.now.coupling.responses.now f }
+    {
+        match self.bounds.peer(f) {
+            Some(peer) => self.linked_at(f, peer),
+            None => self.by_condition(f),
+        }
+    }
+
+    // The coefficient of the face f; a face with two cells refuses before all others.
+    #[tactic(auto, unfolding(crate::specs::Boundary::coefficient_at, crate::specs::Coefficients::internal_at, passes::specs::Staged::staged))]
+    fn stage_at(&self, f: usize) -> Stage
+        requires f_lt_faces { f < self.now.coupling.grid.counts.faces }
+        ensures answer { let m = grid_of_lent self.now.coupling.grid in
+            let k = bounds_of_lent self.now.bounds in
+            let w = self.now.coupling.responses.now in
+            result ≡ staged (internal_at m w f) (coefficient_at m k w f) }
+    {
+        match self.coupling.grid.neighbour(f) {
+            Some(_) => early(self.coupling.internal_at(f)),
+            None => late(self.boundary_at(f)),
+        }
+    }
+
+    // Writes the coefficients up to the first refusal of a face with two cells. Each of the three ends of a stage has
+    // an arm of its own: by `map_err` and `?` the third would stand apart from the two, and be no plainer.
+    #[tactic(auto, using(passes::proofs::Stages::stop))]
+    fn fill(&self, out: &mut [f64]) -> Answer
+        requires out_len { length out.old ≡ self.now.coupling.grid.counts.faces }
+        ensures passes { let m = grid_of_lent self.now.coupling.grid in
+            let k = bounds_of_lent self.now.bounds in
+            let w = self.now.coupling.responses.now in
+            let n = self.now.coupling.grid.counts.faces in
+            Passes (boundary_answer m k w n) (boundary_coefficients m k w n) result out.new }
+    {
+        let mut late = Ok(());
+        for f in 0..self.coupling.grid.counts.faces {
+            match self.stage_at(f) {
+                Ok(Ok(v)) => out[f] = v,
+                Ok(Err(reason)) => late = late.and(Err(reason.at(f))),
+                Err(reason) => return Err(reason.at(f)),
+            }
+        }
+        late
+    }
+
+    #[tactic(auto, unfolding(mesh::specs::Pass::handed_out))]
+    pub fn pressure_face_coefficients_with_boundary(&self, out: &mut [f64]) -> Answer
+        requires out_len { length out.old ≡ self.now.coupling.grid.counts.faces }
+        ensures answer { let m = grid_of_lent self.now.coupling.grid in
+            let k = bounds_of_lent self.now.bounds in
+            let n = self.now.coupling.grid.counts.faces in
+            result ≡ boundary_answer m k self.now.coupling.responses.now n }
+        ensures contents { let m = grid_of_lent self.now.coupling.grid in
+            let k = bounds_of_lent self.now.bounds in
+            let n = self.now.coupling.grid.counts.faces in
+            out.new ≡ handed_out result n (boundary_coefficients m k self.now.coupling.responses.now n) }
+    {
+        let answer = self.fill(out);
+        settle(out, answer)
+    }
+
+    // The coefficient of the face f; that of a face with two cells is `own` already.
+    #[tactic(auto, unfolding(crate::specs::Boundary::coefficient_at))]
+    fn completed_at(&self, f: usize, own: f64) -> Outcome
+        requires f_lt_faces { f < self.now.coupling.grid.counts.faces }
+        requires own { let m = grid_of_lent self.now.coupling.grid in
+            internal_at m self.now.coupling.responses.now f ≡ Ok own }
+        ensures answer { let m = grid_of_lent self.now.coupling.grid in
+            let k = bounds_of_lent self.now.bounds in
+            result ≡ coefficient_at m k self.now.coupling.responses.now f }
+    {
+        match self.coupling.grid.neighbour(f) {
+            Some(_) => Ok(own),
+            None => self.boundary_at(f),
+        }
+    }
+
+    // Writes the coefficients of the faces with one cell up to the first refusal; those of the faces
+    // with two cells stand in `out` already.
+    #[tactic(auto, using(crate::proofs::Started::own_coefficient))]
+    pub fn complete(&self, out: &mut [f64]) -> Answer
+        requires out_len { length out.old ≡ self.now.coupling.grid.counts.faces }
+        requires begun { let m = grid_of_lent self.now.coupling.grid in
+            Begun m self.now.coupling.responses.now out.old }
+        ensures passes { let m = grid_of_lent self.now.coupling.grid in
+            let k = bounds_of_lent self.now.bounds in
+            let w = self.now.coupling.responses.now in
+            let n = self.now.coupling.grid.counts.faces in
+            Passes (boundary_answer m k w n) (boundary_coefficients m k w n) result out.new }
+    {
+        passes::fill(out, |f, own| self.completed_at(f, own))
+    }
 }

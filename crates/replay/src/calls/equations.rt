@@ -1,34 +1,26 @@
-// The calls of `stencil`.
+// The calls of `stencil`. Outputs as an array of a const parameter's length were tried here: the borrow checker
+// does not cover such arrays of structs that own memory and name a lifetime.
 use crate::calls::Setting;
 use crate::fault::Fault;
 use crate::words::Words;
+use pattern::{FILL, fill};
+use stencil::StencilMut;
 
 impl<'a> Setting<'a> {
     pub(crate) fn stencil(&self, records: usize, words: Words<'a>) -> Result<bool, Fault> {
-        let m = &self.mesh;
-        let k = &self.conditions;
         let mut outputs = words.outputs(4)?;
-        let mut starts = outputs.numbers(self.alloc)?;
-        let mut equations = outputs.numbers(self.alloc)?;
-        let mut weights = outputs.reals(self.alloc)?;
-        let mut inverses = outputs.reals(self.alloc)?;
-        let answer = stencil::least_squares_stencil(
-            m.counts,
-            m.adjacency,
-            m.geometry,
-            m.heads,
-            m.places,
-            m.facing,
-            m.bordering,
-            k.number,
-            k.codes,
-            k.values,
+        let mut starts = outputs.output(self.alloc, FILL)?;
+        let mut equations = outputs.output(self.alloc, FILL)?;
+        let mut weights = outputs.output(self.alloc, fill())?;
+        let mut inverses = outputs.output(self.alloc, fill())?;
+        let mut out = StencilMut {
             records,
-            &mut starts.values,
-            &mut equations.values,
-            &mut weights.values,
-            &mut inverses.values,
-        );
+            starts: &mut starts.values,
+            equations: &mut equations.values,
+            weights: &mut weights.values,
+            inverses: &mut inverses.values,
+        };
+        let answer = stencil::least_squares_stencil(&self.mesh, &self.conditions, &mut out);
         Ok(
             outputs.is_right(answer)?
                 && starts.is_right()

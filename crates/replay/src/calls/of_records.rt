@@ -1,9 +1,11 @@
 // The calls of a gradient through `records`, which hands out a record a cell.
 use crate::calls::Setting;
 use crate::fault::Fault;
-use crate::outputs::{LONGEST, fill};
-use crate::words::{Stencil, Words};
+use crate::outputs::LONGEST;
+use crate::words::Words;
 use mesh::Field;
+use numerics::Stencil;
+use pattern::fill;
 use vector::Vec3;
 
 // How many records are lent where the list has an output of n numbers: a third as many, and none
@@ -20,7 +22,7 @@ impl<'a> Setting<'a> {
         words: Words<'a>,
     ) -> Result<bool, Fault> {
         let mut outputs = words.outputs(1)?;
-        let mut out = outputs.reals(self.alloc)?;
+        let mut out = outputs.output(self.alloc, fill())?;
         let filled = Vec3 {
             x: fill(),
             y: fill(),
@@ -29,14 +31,8 @@ impl<'a> Setting<'a> {
         let mut gradients = Vec::from_elem(self.alloc, filled, records_of(out.values.len()))?;
         let answer = records::least_squares_gradient(
             self.mesh.counts,
-            stencil.number,
-            stencil.records,
-            stencil.starts,
-            stencil.equations,
-            stencil.weights,
-            stencil.inverses,
-            pressure.number,
-            pressure.values,
+            stencil,
+            pressure,
             &mut gradients,
         );
         let (numbers, _) = out.values.as_chunks_mut::<3>();

@@ -1,73 +1,89 @@
 // The calls of `step`.
 use crate::calls::Setting;
 use crate::fault::Fault;
+use crate::outputs::{Output, Outputs};
 use crate::words::Words;
+use mesh::Answer;
+use pattern::{FILL, fill};
+use std::alloc::Global;
+use step::Fields;
+
+// The outputs of a step, and what they are to hold. Each is a field of its own: outputs that come as an array of
+// a const parameter's length were tried, and the borrow checker does not cover such arrays of structs that
+// own memory and name a lifetime.
+#[derive(Drop)]
+struct Handed<'a> {
+    starts: Output<'a, usize>,
+    equations: Output<'a, usize>,
+    weights: Output<'a, f64>,
+    inverses: Output<'a, f64>,
+    gradient: Output<'a, f64>,
+    predicted: Output<'a, f64>,
+    coefficients: Output<'a, f64>,
+    flux: Output<'a, f64>,
+    outflow: Output<'a, f64>,
+    metrics: Output<'a, f64>,
+}
+
+impl<'a> Handed<'a> {
+    fn of(outputs: &mut Outputs<'a>, alloc: Global) -> Result<Handed<'a>, Fault> {
+        Ok(Handed {
+            starts: outputs.output(alloc, FILL)?,
+            equations: outputs.output(alloc, FILL)?,
+            weights: outputs.output(alloc, fill())?,
+            inverses: outputs.output(alloc, fill())?,
+            gradient: outputs.output(alloc, fill())?,
+            predicted: outputs.output(alloc, fill())?,
+            coefficients: outputs.output(alloc, fill())?,
+            flux: outputs.output(alloc, fill())?,
+            outflow: outputs.output(alloc, fill())?,
+            metrics: outputs.output(alloc, fill())?,
+        })
+    }
+
+    fn step(&mut self, setting: &Setting<'_>, records: usize, fields: &Fields<'_>) -> Answer {
+        let mut out = step::Outputs {
+            records,
+            starts: &mut self.starts.values,
+            equations: &mut self.equations.values,
+            weights: &mut self.weights.values,
+            inverses: &mut self.inverses.values,
+            gradient: &mut self.gradient.values,
+            predicted: &mut self.predicted.values,
+            coefficients: &mut self.coefficients.values,
+            flux: &mut self.flux.values,
+            outflow: &mut self.outflow.values,
+            metrics: &mut self.metrics.values,
+        };
+        step::step(&setting.mesh, &setting.conditions, fields, &mut out)
+    }
+
+    fn is_right(&self) -> bool {
+        self.starts.is_right()
+            && self.equations.is_right()
+            && self.weights.is_right()
+            && self.inverses.is_right()
+            && self.gradient.is_right()
+            && self.predicted.is_right()
+            && self.coefficients.is_right()
+            && self.flux.is_right()
+            && self.outflow.is_right()
+            && self.metrics.is_right()
+    }
+}
 
 impl<'a> Setting<'a> {
     pub(crate) fn step(&self, records: usize, mut words: Words<'a>) -> Result<bool, Fault> {
-        let m = &self.mesh;
-        let k = &self.conditions;
-        let velocity = words.field()?;
-        let pressure = words.field()?;
-        let responses = words.field()?;
-        let walls = words.field()?;
-        let correction = words.field()?;
+        let fields = Fields {
+            velocity: words.field()?,
+            pressure: words.field()?,
+            responses: words.field()?,
+            walls: words.field()?,
+            correction: words.field()?,
+        };
         let mut outputs = words.outputs(10)?;
-        let mut starts = outputs.numbers(self.alloc)?;
-        let mut equations = outputs.numbers(self.alloc)?;
-        let mut weights = outputs.reals(self.alloc)?;
-        let mut inverses = outputs.reals(self.alloc)?;
-        let mut gradient = outputs.reals(self.alloc)?;
-        let mut predicted = outputs.reals(self.alloc)?;
-        let mut coefficients = outputs.reals(self.alloc)?;
-        let mut flux = outputs.reals(self.alloc)?;
-        let mut outflow = outputs.reals(self.alloc)?;
-        let mut metrics = outputs.reals(self.alloc)?;
-        let answer = step::step(
-            m.counts,
-            m.adjacency,
-            m.geometry,
-            m.heads,
-            m.places,
-            m.facing,
-            m.bordering,
-            k.number,
-            k.codes,
-            k.values,
-            records,
-            velocity.number,
-            velocity.values,
-            pressure.number,
-            pressure.values,
-            responses.number,
-            responses.values,
-            walls.number,
-            walls.values,
-            correction.number,
-            correction.values,
-            &mut starts.values,
-            &mut equations.values,
-            &mut weights.values,
-            &mut inverses.values,
-            &mut gradient.values,
-            &mut predicted.values,
-            &mut coefficients.values,
-            &mut flux.values,
-            &mut outflow.values,
-            &mut metrics.values,
-        );
-        Ok(
-            outputs.is_right(answer)?
-                && starts.is_right()
-                && equations.is_right()
-                && weights.is_right()
-                && inverses.is_right()
-                && gradient.is_right()
-                && predicted.is_right()
-                && coefficients.is_right()
-                && flux.is_right()
-                && outflow.is_right()
-                && metrics.is_right(),
-        )
+        let mut handed = Handed::of(&mut outputs, self.alloc)?;
+        let answer = handed.step(self, records, &fields);
+        Ok(outputs.is_right(answer)? && handed.is_right())
     }
 }

@@ -1,18 +1,6 @@
-use Rattle.simple.proofs.Checked.{correction_passed}
-use Rattle.simple.proofs.Corrected.{after_work}
-use Rattle.coupling.specs.Grid.{field}
-use Rattle.simple.specs.Corrected.{fields}
-use Rattle.mesh.specs.Mesh.{conditions}
-use lib.ListN.{length}
+use Rattle.std.proofs.Common.{rules}
+use Rattle.simple.proofs.Corrected.{keeps_promise}
 use Rattle.simple.proofs.correct_face_flux_in_place.Goals as goal
 
-pub correct_face_flux_in_place-requires : goal.correct_face_flux_in_place-requires
-correct_face_flux_in_place-requires c =
-    let p = correction_passed c.args.counts c.args.adjacency.now (conditions c.args.number c.args.codes.now c.args.values.now) (fields (field c.args.prediction c.args.flux.now) (field c.args.coefficient c.args.coefficients.now) (field c.args.correction c.args.corrections.now)) (length c.args.flux.now) c.check_correction.result c.check_correction.ensures.checked c.in_ok-check_correction.was in
-    p.0
-
-pub returns : goal.returns
-returns c =
-    record {
-      corrects = after_work c.args.counts c.args.adjacency.now (conditions c.args.number c.args.codes.now c.args.values.now) (fields (field c.args.prediction c.args.flux.now) (field c.args.coefficient c.args.coefficients.now) (field c.args.correction c.args.corrections.now)) c.args.flux.now c.check_correction.result c.check_correction.ensures.checked _ _ c.in_ok-check_correction.was c.correct_face_flux_in_place.ensures.answer c.correct_face_flux_in_place.ensures.contents;
-    }
+pub returns-clause-promise : goal.returns-clause-promise
+returns-clause-promise c = keeps_promise _ _ _ _ _ _ _ _ c.check_correction.ensures.checked (search rules) (search rules) (search rules)

@@ -21,7 +21,8 @@ returns-then-not-leads_on c = λ e. absurd (false≢true e)
 
 pub loop-i-preserved : goal.loop-i-preserved
 loop-i-preserved c =
-    below_more (λ (j : ℕ). leads_on c.args.limit c.args.records.now j ≡ true) c.loop-i.i c.loop-i.invariant (sym c.leads_on.ensures ∙ not-false _ c.if-not-leads_on.false-raw)
+    let leads = sym c.leads_on.ensures ∙ not-false _ c.if-not-leads_on.false-raw in
+    below_more (λ (j : ℕ). leads_on c.args.limit c.args.records.now j ≡ true) c.loop-i.i c.loop-i.invariant leads
 
 pub ends_at-requires : goal.ends_at-requires
 ends_at-requires c = omega (arith, c.if-count-eq0.false)

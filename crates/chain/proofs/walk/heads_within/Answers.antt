@@ -14,7 +14,8 @@ returns-then-records-head_at c = λ e. absurd (false≢true e)
 
 pub loop-cell-preserved : goal.loop-cell-preserved
 loop-cell-preserved c =
-    below_more (λ (j : ℕ). head_at c.args.form c.args.heads.now j ≤ c.args.records) c.loop-cell.cell c.loop-cell.invariant (subst (λ (r : ℕ). r ≤ c.args.records) c.head_at.ensures c.if-records-head_at.false)
+    let within = subst (λ (r : ℕ). r ≤ c.args.records) c.head_at.ensures c.if-records-head_at.false in
+    below_more (λ (j : ℕ). head_at c.args.form c.args.heads.now j ≤ c.args.records) c.loop-cell.cell c.loop-cell.invariant within
 
 pub returns : goal.returns
 returns c =

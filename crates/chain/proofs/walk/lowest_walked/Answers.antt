@@ -23,14 +23,18 @@ loop-r-smaller c = omega (arith, c.if-left-eq0.false)
 
 pub loop-r-preserved : goal.loop-r-preserved
 loop-r-preserved c = record {
-  as_begun = goes_on _ _ _ c.loop-r.left c.loop-r.r _ c.if-left-eq0.false c.loop-r-test.true (sym c.step_at.ensures ∙ c.in-Some.is) ∙ c.loop-r.invariant.as_begun;
+  as_begun =
+      goes_on _ _ _ c.loop-r.left c.loop-r.r _ c.if-left-eq0.false c.loop-r-test.true (sym c.step_at.ensures ∙ c.in-Some.is)
+      ∙ c.loop-r.invariant.as_begun;
   none_yet = c.loop-r.invariant.none_yet;
 }
 
 pub cells-preserved : goal.cells-preserved
 unfolding broken_cell
 cells-preserved c = record {
-  searched = more _ _ c.cells.cell c.cells.invariant.searched c.cells-test.true (ap not (sym c.loop-r.invariant.as_begun ∙ ended _ _ _ c.loop-r.left c.loop-r.r c.loop-r-test.false));
+  searched =
+      more _ _ c.cells.cell c.cells.invariant.searched c.cells-test.true
+      (ap not (sym c.loop-r.invariant.as_begun ∙ ended _ _ _ c.loop-r.left c.loop-r.r c.loop-r-test.false));
   none_yet = c.loop-r.invariant.none_yet;
 }
 
@@ -41,9 +45,13 @@ returns-after-cells c =
 pub returns-then-left-eq0 : goal.returns-then-left-eq0
 unfolding broken_cell
 returns-then-left-eq0 c =
-    rw (← c.cell_count-cell-end.ensures) (sym (found _ _ _ c.cells.invariant.searched c.cells-test.true (ap not (sym c.loop-r.invariant.as_begun ∙ no_end _ _ _ c.loop-r.left c.loop-r.r c.if-left-eq0.true c.loop-r-test.true))))
+    let broken = no_end _ _ _ c.loop-r.left c.loop-r.r c.if-left-eq0.true c.loop-r-test.true in
+    let at = found _ _ _ c.cells.invariant.searched c.cells-test.true (ap not (sym c.loop-r.invariant.as_begun ∙ broken)) in
+    rw (← c.cell_count-cell-end.ensures) (sym at)
 
 pub returns-in_default : goal.returns-in_default
 unfolding broken_cell
 returns-in_default c =
-    rw (← c.cell_count-cell-end.ensures) (sym (found _ _ _ c.cells.invariant.searched c.cells-test.true (ap not (sym c.loop-r.invariant.as_begun ∙ breaks _ _ _ c.loop-r.left c.loop-r.r c.loop-r-test.true (sym c.step_at.ensures ∙ c.in_default.is)))))
+    let broken = breaks _ _ _ c.loop-r.left c.loop-r.r c.loop-r-test.true (sym c.step_at.ensures ∙ c.in_default.is) in
+    let at = found _ _ _ c.cells.invariant.searched c.cells-test.true (ap not (sym c.loop-r.invariant.as_begun ∙ broken)) in
+    rw (← c.cell_count-cell-end.ensures) (sym at)

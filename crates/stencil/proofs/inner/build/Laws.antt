@@ -1,15 +1,11 @@
--- What is known of a mesh that is built on, and a building as a function holds it.
+-- What is known of a mesh that is built on.
 use mathlib.Core.Path.{◌≡◌}
-use mathlib.Core.List.{List}
 use Prim.Native.Nat.{ℕ, ◌-◌, ◌<◌, ◌≤◌}
 use native.Mathlib.Omega.{arith}
-use lib.Ieee.{Float}
 use Rattle.mesh.specs.Records.{peer_at}
 use Rattle.mesh.proofs.Facts.{peer_below}
 use Rattle.stencil.specs.Lent.{Lent, Buildable, web_of}
 use Rattle.stencil.specs.Ring.{Web}
-use Rattle.stencil.specs.declared.inner.build.Progress.{Progress}
-use Rattle.stencil.specs.Building.{Building, building}
 
 -- one less than a number that is not 0 and at most n
 pub below-pred : {a n : ℕ} → a ≤ n → (a ≡ 0 → ⊥) → a - 1 < n
@@ -21,7 +17,3 @@ web_known l g = record { heads_size = g.sized.heads; bordering_size = g.sized.bo
 
 pub peer_face : (l : Lent) → Buildable l → (f : ℕ) → f < l.mesh.counts.faces → peer_at l.bounds.codes f ≤ l.mesh.counts.faces
 peer_face l g f h = peer_below l.mesh.adjacency l.bounds.codes l.mesh.counts.faces f g.codes (g.sound.links f h)
-
--- a building in the slices that a function holds
-abbrev pub held : Progress → List ℕ → List Float → Building
-held p e w = building p.used e w p.normal

@@ -16,14 +16,14 @@ use borrow.Author.Count.{below_more}
 use borrow.Author.Tests.{ltb-true, leb-true, le-leb, lt-ltb, ne_eqb}
 use Rattle.chain.specs.Pairs.{first_at, second_at}
 use Rattle.chain.specs.Chains.{item_of, next_of, ends, Chain}
+use Rattle.chain.proofs.Chains.{chained}
 use Rattle.chain.proofs.Truth.{and_true}
 use Rattle.numerics.specs.Slices.{from_cell}
 use Rattle.stencil.proofs.inner.ring.Laws.{cases}
-use Rattle.stencil.specs.declared.inner.build.Equation.{Equation}
 use Rattle.matrix.specs.Normal.{zero9}
 use Rattle.stencil.specs.Lent.{Lent, Buildable}
-use Rattle.stencil.specs.Stencil.{start_of, ended_at, Stencil, joined, add_cell, below, answer_of, slices_of, stencil_answer, stencil_slices}
-use Rattle.stencil.specs.Building.{building, Solved, Course, record_numbers}
+use Rattle.stencil.specs.Stencil.{start_of, ended_at, Stencil, joined, add_cell, below, answer_of, slices_after, stencil_answer, stencil_slices}
+use Rattle.stencil.specs.Building.{Equation, building, Solved, Course, record_numbers}
 use Rattle.stencil.proofs.inner.build.Whole.{length_ended}
 use Rattle.stencil.proofs.inner.build.Within.{Finishes, cell_within}
 
@@ -115,8 +115,8 @@ module _ (n limit old : ℕ) (l0 l : List ℕ) (used : ℕ) (o : Open n limit ol
   closed_before : (i : ℕ) → i < 2 * used - 1 → get_or closed i 0 ≡ get_or l i 0
   closed_before i h = get_or-set_other l (2 * used - 1) i 0 0 (ne_of_lt h)
 
-  chained : old < used → ends closed used limit (used - old) (old + 1) ≡ true
-  chained h =
+  chain_from : old < used → ends closed used limit (used - old) (old + 1) ≡ true
+  chain_from h =
       let count : suc (used - old - 1) ≡ used - old = omega arith in
       rw (← count)
       (runs limit old used closed
@@ -133,8 +133,8 @@ module _ (n limit old : ℕ) (l0 l : List ℕ) (used : ℕ) (o : Open n limit ol
       ⊎_elim
       (λ t.
       let h : old < used = ltb-true _ _ t in
-      rw t record { left = used - old; within = omega arith; sound = chained h })
-      (λ t. rw t record { left = 0; within = zero-le; sound = refl })
+      rw t (chained _ _ _ (used - old) _ (omega arith) (chain_from h)))
+      (λ t. rw t (chained _ _ _ 0 _ zero-le refl))
       (cases (ltb old used))
 
   -- the records before are as they were
@@ -169,13 +169,10 @@ module _ (m : Lent) (records : ℕ) where
 
   moved : (s : Stencil) (u : ℕ) (l : List ℕ) (r : ℕ) → Opens s u l → Chain s.slices.equations s.used limit r
       → Chain (ended_at s.used u l) u limit r
-  moved s u l r o c = record {
-    left = c.left;
-    within = omega (arith, c.within, o.low);
-    sound =
-        carried s.slices.equations (ended_at s.used u l) s.used u limit c.left r o.low
-        (ended_kept records limit s.used s.slices.equations l u o) c.sound;
-  }
+  moved s u l r o c =
+      chained _ _ _ s.used _ o.low
+      (carried s.slices.equations (ended_at s.used u l) s.used u limit s.used r o.low
+      (ended_kept records limit s.used s.slices.equations l u o) c.sound)
 
   joined_sound : (c : ℕ) (s : Stencil) → c < m.mesh.counts.cells → Sounding c s → (o : Course Solved) → Finishes (Opens s) o → Sounds (c + 1) (joined c s o)
   unfolding joined
@@ -227,16 +224,12 @@ module _ (m : Lent) (records : ℕ) where
       → Chain s.slices.equations records (from_cell m.mesh.counts.cells) (get_or s.slices.starts c 0)
   sound good s e c h =
       let g : Sounds m.mesh.counts.cells (Ok s) = rw e at (all_sound good m.mesh.counts.cells (le_refl _)) in
-      let k = g.chain c h in
-      record {
-        left = k.left;
-        within = omega (arith, k.within, g.room);
-        sound = carried s.slices.equations s.slices.equations s.used records limit k.left _ g.room (λ i a. refl) k.sound;
-      }
+      chained _ _ _ s.used _ g.room
+      (carried s.slices.equations s.slices.equations s.used records limit s.used _ g.room (λ i a. refl) (g.chain c h).sound)
 
   from_result : Buildable m → (r : Course Stencil) → below m records m.mesh.counts.cells ≡ r → accepted ≡ answer_of r → (c : ℕ) → c < m.mesh.counts.cells
-      → Chain (slices_of m records r).equations records (from_cell m.mesh.counts.cells) (get_or (slices_of m records r).starts c 0)
-  unfolding answer_of slices_of
+      → Chain (slices_after m records r).equations records (from_cell m.mesh.counts.cells) (get_or (slices_after m records r).starts c 0)
+  unfolding answer_of slices_after
   from_result good (Err r) e a c h = absurd (cc)
   from_result good (Ok s) e a c h = sound good s e c h
 

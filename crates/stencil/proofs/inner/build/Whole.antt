@@ -1,46 +1,33 @@
 -- The pass over the cells, as the loop makes it: what holds at its head, and how a turn, the end and a refusal go on from there.
-use Rattle.std.specs.Prelude.{Ok, Err}
+use Rattle.std.specs.Prelude.{true, false, Ok, Err}
+use Rattle.std.specs.Result.{is_err}
 use Rattle.refusal.specs.declared.Refusal.{Refusal}
-use Rattle.mesh.specs.Answers.{Answer, accepted}
-use mathlib.Core.Path.{◌≡◌, refl, ◌∙◌}
+use Rattle.mesh.specs.Answers.{Answer}
+use mathlib.Core.Path.{◌≡◌, refl}
 use mathlib.Core.List.{List}
 use mathlib.Core.Logic.{⊎_elim}
-use Prim.Native.Nat.{ℕ, ◌+◌, ◌*◌, ◌<◌, ◌≤◌, zero-le}
-use native.Mathlib.Numerals.{add-one, add-one-le}
+use Prim.Native.Nat.{ℕ, ◌+◌, ◌<◌, ◌≤◌, zero-le}
+use native.Mathlib.Numerals.{add-one}
 use native.Mathlib.Decide.{le_ind}
 use lib.Dec.{ltb}
-use lib.ListN.{length, set, length-set, length-replicate}
-use lib.Ieee.{Float}
-use Rattle.matrix.specs.Normal.{zero9}
-use Rattle.matrix.specs.declared.Normal.{Normal}
-use Rattle.numerics.specs.Slices.{Slices, slices}
+use lib.ListN.{length, length-set, length-replicate}
+use Rattle.numerics.specs.Slices.{Slices}
 use Rattle.stencil.proofs.inner.ring.Laws.{cases}
-use Rattle.stencil.specs.declared.inner.build.Solution.{Solution}
-use Rattle.stencil.specs.Lent.{Lent, Buildable}
-use Rattle.stencil.specs.Building.{building, Course, finish_of}
-use Rattle.stencil.specs.Cell.{cell_stencil}
-use Rattle.stencil.specs.Stencil.{start_of, ended_at, put_nine, blank, cleared, Filled}
-use Rattle.stencil.specs.Stencil.{joined, add_cell, below, answer_of, slices_of, stencil_answer, stencil_slices}
-use Rattle.stencil.proofs.inner.build.Within.{Finishes, cell_within}
+use Rattle.stencil.specs.declared.lent.StencilMut.{StencilMut}
+use Rattle.stencil.specs.Lent.{Lent}
+use Rattle.stencil.specs.Building.{Course}
+use Rattle.stencil.specs.Bundles.{slices_in, whole_of}
+use Rattle.stencil.specs.Stencil.{ended_at, blank, cleared, SlicesSized, Filled}
+use Rattle.stencil.specs.Stencil.{add_cell, below, answer_of, slices_after, stencil_answer, stencil_slices}
 
 pub length_ended : (old used : ℕ) (l : List ℕ) → length (ended_at old used l) ≡ length l
 unfolding ended_at
 length_ended old used l = ⊎_elim (λ t. rw t (length-set l _ _)) (λ t. rw t) (cases (ltb old used))
 
-length-nine : (l : List Float) (c : ℕ) (n : Normal) → length (put_nine l c n) ≡ length l
-unfolding put_nine
-length-nine l c n = simp length-set
-
 module _ (m : Lent) (records : ℕ) where
-  abbrev Room : ℕ → List ℕ → Type 0
-  Room u l = u ≤ records
-
   -- the cells below c are done, and their stencils stand in the slices
   pub record Pass (c used : ℕ) (s : Slices) : Type 0 where
-    pub starts_size : length s.starts ≡ m.mesh.counts.cells
-    pub numbers : length s.equations ≡ 2 * records
-    pub floats : length s.weights ≡ 4 * records
-    pub inverses_size : length s.inverses ≡ 9 * m.mesh.counts.cells
+    pub sized : SlicesSized m records s
     pub room : used ≤ records
     pub done : below m records c ≡ Ok (record { used = used; slices = s })
 
@@ -49,49 +36,37 @@ module _ (m : Lent) (records : ℕ) where
   start s e =
       rw e
       record {
-        starts_size = length-replicate _ _;
-        numbers = length-replicate _ _;
-        floats = length-replicate _ _;
-        inverses_size = length-replicate _ _;
+        sized =
+            record {
+              starts = length-replicate _ _;
+              equations = length-replicate _ _;
+              weights = length-replicate _ _;
+              inverses = length-replicate _ _;
+            };
         room = zero-le;
         done = refl;
       }
 
-  module _ (c used : ℕ) (s : Slices) (g : Buildable m) (p : Pass c used s) (l : c < m.mesh.counts.cells) (r : Course Solution) (e : List ℕ) (w : List Float)
-      (is-cell : finish_of r e w ≡ cell_stencil m records c (building used s.equations s.weights zero9)) where
-    pub roomy : (q : Solution) → r ≡ Ok q → q.used ≤ records
-    roomy q h =
-        let k : Finishes Room (finish_of r e w) =
-        rw is-cell
-        (cell_within Room records m g (λ v u q a b y. add-one-le b) c l (building used s.equations s.weights zero9) p.room) in
-        rw h at k
+  module _ (c used : ℕ) (s : Slices) (p : Pass c used s) (r : Course ℕ) (t : StencilMut)
+      (is-cell : whole_of r t ≡ add_cell m records c (Ok (record { used = used; slices = s }))) where
+    pub more : (u : ℕ) → r ≡ Ok u → SlicesSized m records (slices_in t) → u ≤ records → Pass (c + 1) u (slices_in t)
+    unfolding below
+    more u h f l = record { sized = f; room = l; done = rw (add-one, p.done, ← is-cell, h) }
 
-    pub more : (q : Solution) → r ≡ Ok q → length e ≡ 2 * records → length w ≡ 4 * records
-        → Pass (c + 1) q.used (slices (set s.starts c (start_of used q.used)) (ended_at used q.used e) w (put_nine s.inverses c q.inverse))
-    unfolding below add_cell joined
-    more q h he hw = record {
-      starts_size = length-set s.starts c _ ∙ p.starts_size;
-      numbers = length_ended used q.used e ∙ he;
-      floats = hw;
-      inverses_size = length-nine s.inverses c q.inverse ∙ p.inverses_size;
-      room = roomy q h;
-      done = rw (add-one, p.done, ← is-cell, h);
-    }
-
-    pub stop : (k : Refusal) → r ≡ Err k → below m records m.mesh.counts.cells ≡ Err k
-    unfolding below add_cell joined
-    stop k h = le_ind (λ n. below m records n ≡ Err k) (rw (p.done, ← is-cell, h)) (λ n a q. rw q) m.mesh.counts.cells l
+    pub stop : (k : Refusal) → r ≡ Err k → c < m.mesh.counts.cells → below m records m.mesh.counts.cells ≡ Err k
+    unfolding below add_cell
+    stop k h l = le_ind (λ n. below m records n ≡ Err k) (rw (p.done, ← is-cell, h)) (λ n a q. rw q) m.mesh.counts.cells l
 
   -- what is handed out: the answer, and the slices
   abbrev pub Handed : Answer → Slices → Type 0
   Handed r s = (r ≡ stencil_answer m records) × (s ≡ stencil_slices m records)
 
-  pub handed : (s : Slices) → Filled m records accepted s → Handed accepted s
-  unfolding stencil_answer stencil_slices answer_of slices_of
-  handed s f = rw f.1 (refl, refl)
+  pub handed : (r : Answer) (s : Slices) → false ≡ is_err r → Filled m records r s → Handed r s
+  unfolding stencil_answer stencil_slices answer_of slices_after
+  handed (Ok u) s e f = rw f.1 (refl, refl)
+  handed (Err k) s e f = cc
 
-  pub turned_away : (k : Refusal) → below m records m.mesh.counts.cells ≡ Err k → (s out : Slices) → length s.starts ≡ m.mesh.counts.cells
-      → length s.equations ≡ 2 * records → length s.weights ≡ 4 * records → length s.inverses ≡ 9 * m.mesh.counts.cells → out ≡ cleared s
-      → Handed (Err k) out
-  unfolding stencil_answer stencil_slices answer_of slices_of
-  turned_away k h s out a b c d e = rw h (refl, rw (e, a, b, c, d))
+  pub turned_away : (r : Answer) (s out : Slices) → true ≡ is_err r → Filled m records r s → SlicesSized m records s → out ≡ cleared s → Handed r out
+  unfolding stencil_answer stencil_slices answer_of slices_after
+  turned_away (Ok u) s out e f l o = cc
+  turned_away (Err k) s out e f l o = rw f (refl, rw (o, l.starts, l.equations, l.weights, l.inverses))

@@ -20,12 +20,11 @@ use Rattle.numerics.specs.Slices.{from_cell}
 use Rattle.stencil.proofs.inner.ring.Laws.{cases}
 use Rattle.stencil.proofs.Walks.{Bounded, walk_bounded}
 use Rattle.matrix.specs.declared.Normal.{Normal}
-use Rattle.stencil.specs.declared.inner.build.Equation.{Equation}
-use Rattle.stencil.specs.declared.inner.build.Offer.{Offer}
-use Rattle.stencil.specs.declared.inner.build.Offer.TheVariants.{Closing, Missing, Difference}
+use Rattle.stencil.specs.declared.inner.cell.Offer.{Offer}
+use Rattle.stencil.specs.declared.inner.cell.Offer.TheVariants.{Closing, Missing, Difference}
 use Rattle.mesh.specs.Records.{owner_at, neighbour_at, peer_at, condition_at, centre, face_normal}
 use Rattle.stencil.specs.Lent.{Lent, Buildable, cell_faces, web_of}
-use Rattle.stencil.specs.Building.{Building, Solved, Course, and_then, over_all, record_numbers, push}
+use Rattle.stencil.specs.Building.{Equation, source_number, Building, Solved, Course, and_then, over_all, record_numbers, push}
 use Rattle.stencil.specs.Cell.{wall, offer, weighted, offered, add_face, gather, add_ring, extend, add_normal, closing}
 use Rattle.stencil.specs.Cell.{add_closing, close, settle, inverse_of, finished, finish, widened, widen, gathered, cell_stencil}
 use Rattle.stencil.proofs.inner.build.Laws.{below-pred, peer_face}
@@ -42,7 +41,7 @@ up_bounded p limit (suc n) d h =
 abbrev Sourced : ℕ → Offer → Type 0
 Sourced limit Closing = 0 ≤ limit
 Sourced limit Missing = 0 ≤ limit
-Sourced limit (Difference s o v) = s < limit
+Sourced limit (Difference s o v) = source_number s < limit
 
 wall_sourced : (limit : ℕ) (k : Condition) (away : Vec3) → 1 < limit → Sourced limit (wall k away)
 unfolding wall

@@ -8,7 +8,7 @@ use native.Mathlib.Omega.{arith}
 use native.Mathlib.Nat.{le_refl}
 use lib.Dec.{leb, ltb, eqb}
 use borrow.Author.Tests.{ltb-true, ltb-false, leb-true, eqb-true, eqb-false, eq-eqb, le-leb}
-use Rattle.stencil.specs.Ring.{elem, Ways, neighbours_of, fresh, beside, in_ring, up_from, ring, ring_from, ring_at, lower_fresh, lowest_in, lowest_all}
+use Rattle.stencil.specs.Ring.{elem, Ways, neighbours_of, fresh, beside, in_ring, up_from, ring, ring_from, lower_fresh, lowest_in, lowest_all}
 use Rattle.std.specs.List.{list_any}
 use Rattle.chain.proofs.Truth.{and_true}
 
@@ -132,21 +132,17 @@ module _ (w : Ways) (c from : ℕ) where
   pub found_onward : (r : ℕ) → r ≡ found → r < w.counts.cells → from ≤ r
   found_onward r q e = rw q (⊎_elim (λ o. absurd (omega arith)) (λ o. o.0) (in_all w c from w.counts.cells (neighbours_of w c)).origin)
 
-  pub found_first : (r : ℕ) → r ≡ found → from ≤ w.counts.cells → ring_from w c from ≡ ring_at w c r
+  pub found_first : (r : ℕ) → r ≡ found → r < w.counts.cells → from ≤ w.counts.cells → ring_from w c from ≡ r ∷ ring_from w c (r + 1)
   unfolding in_ring
-  found_first r q h =
+  found_first r q e h =
       rw q
       (⊎_elim
-      (λ t.
-      let e : found < w.counts.cells = ltb-true _ _ t in
-      ⊎_elim
       (λ o. absurd (omega arith))
-      (λ o. rw t (next (in_ring w c) (w.counts.cells - from) (w.counts.cells - (found + 1)) from found o.0 (omega (arith, o.0)) (rw (o.1, o.2)) earlier))
+      (λ o. next (in_ring w c) (w.counts.cells - from) (w.counts.cells - (found + 1)) from found o.0 (omega (arith, o.0)) (rw (o.1, o.2)) earlier)
       (in_all w c from w.counts.cells (neighbours_of w c)).origin)
-      (λ t.
-      let e : w.counts.cells ≤ found = ltb-false _ _ t in
-      rw t (none (in_ring w c) (w.counts.cells - from) from (λ k a b. earlier k a (omega arith))))
-      (cases (ltb found w.counts.cells)))
+
+  pub found_none : (r : ℕ) → r ≡ found → w.counts.cells ≤ r → ring_from w c from ≡ []
+  found_none r q e = none (in_ring w c) (w.counts.cells - from) from (λ k a b. earlier k a (omega arith))
 
 -- the whole ring is its cells from 0 on
 pub all_ring : (w : Ways) (c : ℕ) → ring w c ≡ ring_from w c 0

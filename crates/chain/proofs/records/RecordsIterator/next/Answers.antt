@@ -20,5 +20,6 @@ returns-clause-goes c =
     let l = c.args.self.now.records.now in
     let t = turn c.requires c.if-self-eq0.false in
     let can : Sound l c.second_of-self.result = rw c.second_of-self.ensures t.rest in
-    let less : length (items_from l c.second_of-self.result) < length (items_from l c.args.self.now.next) = rw (c.second_of-self.ensures, t.cons) (omega arith) in
+    let less : length (items_from l c.second_of-self.result) < length (items_from l c.args.self.now.next) =
+    rw (c.second_of-self.ensures, t.cons) (omega arith) in
     record { on = λ _. (can, tt, less); keeps = can; rests = λ _. tt }

@@ -1,5 +1,0 @@
-use Rattle.simple.proofs.grid_sized.Goals as goal
-
-pub returns : goal.returns
-returns c =
-    rw (c.is_sized.ensures, c.is_sized-2.ensures, c.is_sized-3.ensures)

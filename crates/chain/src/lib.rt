@@ -22,7 +22,8 @@ pub enum Form {
     Second,
 }
 
-// The number at i, 0 where it is missing.
+// The number at i, 0 where it is missing: a missing number ends a chain as a 0 that is lent does, and an `Option` would
+// be turned into that at each use.
 pub fn number_at(s: &[usize], i: usize) -> usize
     ensures { result ≡ get_or s.now i 0 }
 {

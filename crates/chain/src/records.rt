@@ -7,7 +7,7 @@ ghost use Rattle.chain.specs.Sound.{Sound, items_from};
 use crate::Form;
 use crate::inner::{first_of, second_of};
 
-// What is left of a chain: its records, and the next one, 0 where there is none.
+// What is left of a chain: its records, and the next one as it is lent, 0 where there is none.
 #[derive(Drop)]
 pub struct Records<'a> {
     pub records: &'a [usize],

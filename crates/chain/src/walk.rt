@@ -1,4 +1,5 @@
-// The search for the lowest cell whose chain of records is broken.
+// The search for the lowest cell whose chain of records is broken. Limit, records, form and heads go apart, as
+// `lowest_broken` in lib.rt says.
 ghost use Rattle.std.specs.Prelude.{◌≡◌, ◌+◌, ◌*◌, ◌/◌, ◌<◌, length};
 ghost use Rattle.chain.specs.Chains.{step_of, head_at, cell_count, lowest_broken, leads_on, AllLeadOn, HeadsWithin};
 

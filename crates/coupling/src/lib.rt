@@ -128,7 +128,8 @@ fn predicted(s: Span, d: Pair, k: f64, a: Side, b: Side) -> f64
         + k * (gradient.dot(s.other.sub(s.owner)) - (b.pressure - a.pressure))
 }
 
-// The predicted flux of a face of the coefficient k, at these distances; a is the owner's side.
+// The predicted flux of a face of the coefficient k, at these distances; a is the owner's side. That a number is finite
+// is tested where it is made, here and below: a function for it would be a definition more, and no plainer.
 #[tactic(auto, unfolding(crate::specs::Face::predicted_flux))]
 pub fn predicted_flux(s: Span, d: Pair, k: f64, a: Side, b: Side) -> Outcome
     ensures { result ≡ predicted_flux s d k a b }

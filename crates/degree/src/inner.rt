@@ -5,6 +5,7 @@ ghost use Rattle.degree.specs.Degree.{lowest_crowded};
 use crate::count;
 
 // Check 14, of the faces that name a cell, of up to 65,536 cells: the lowest cell that more than 26 faces name.
+// The cells and the adjacency go apart, as in count.rt.
 pub fn lowest_crowded(cells: usize, adjacency: &[usize]) -> Option<usize>
     requires { cells ≤ 65536 }
     ensures { result ≡ lowest_crowded cells adjacency.now }

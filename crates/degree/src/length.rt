@@ -18,6 +18,7 @@ impl<'a> Chains<'a> {
         if self.facing.len() / 2 <= MOST_FACES {
             return false;
         }
+        // it counts from 1, as it is lent, and 0 ends the chain
         let mut r = first_at(self.heads, cell);
         for _n in 0..MOST_FACES {
             if r == 0 {

@@ -26,7 +26,7 @@ fn one<R: Print + AllocGlobal, F: FnOnce(&mut [f64]) -> Answer>(
     tell(rt, answer, &[Output::Floats(&out)])
 }
 
-// The same with two outputs.
+// The same with two outputs: a closure takes each by name, so one function for both would be no plainer.
 fn two<R: Print + AllocGlobal, F: FnOnce(&mut [f64], &mut [f64]) -> Answer>(
     rt: &R,
     n: usize,

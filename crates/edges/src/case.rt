@@ -90,6 +90,7 @@ const STENCIL: Stencil<'static> = Stencil {
     ],
 };
 
+// `twocell` has the same for its own mesh.
 const fn field(values: &[f64]) -> Field<'_> {
     Field {
         number: MESH,

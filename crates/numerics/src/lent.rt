@@ -1,4 +1,4 @@
-// A stencil as it is lent.
+// A stencil as C lends it.
 ghost use Rattle.std.specs.Prelude.{◌≡◌};
 ghost use Rattle.numerics.specs.Slices.{lengths, lengths_of, stencil_sized};
 ghost use Rattle.numerics.specs.Bundles.{slices_of};
@@ -14,7 +14,7 @@ pub struct Stencil<'a> {
     pub inverses: &'a [f64],
 }
 
-// How long its slices are.
+// How long its slices are, which the checks compare: lengths, and no places in a list.
 #[derive(Clone, Copy)]
 pub struct Lengths {
     pub starts: usize,

@@ -12,6 +12,7 @@ pub enum Part {
     Predicted,
 }
 
+// `edges` changes slices that are lent, and this program its own, so `Change` stands in both.
 #[derive(Clone, Copy)]
 pub enum Change {
     Nothing,

@@ -30,7 +30,8 @@ pub fn late(o: Outcome) -> Stage
     Ok(o)
 }
 
-// Writes what each item comes to over what stood in its place, up to the first refusal.
+// Writes what each item comes to over what stood in its place, up to the first refusal. It clears nothing: a step
+// clears all its outputs together, and who hands out one alone settles it.
 pub fn fill<F: Fn(usize, f64) -> Outcome>(out: &mut [f64], item: F) -> Answer
     requires callable { (i : ℕ) → i < length out.old → F.pre item i (get_or out.old i nan) }
     ensures fills { let old = out.old in
@@ -53,7 +54,7 @@ pub fn store(out: &mut [f64], i: usize, v: f64)
     }
 }
 
-// Hands out what a pass has left: +0.0 throughout where it refuses.
+// Hands out what a pass has left: +0.0 throughout where it refuses. A `?` would return before that.
 #[tactic(auto, unfolding(mesh::specs::Pass::handed_out))]
 pub fn settle(out: &mut [f64], a: Answer) -> Answer
     ensures value { result ≡ a }

@@ -1,4 +1,5 @@
 // Gradients handed out as a lent slice of records: a thin function over the number form of `numerics`.
+// Counts, stencil and field are lent apart, as there.
 #![tactic(auto)]
 
 ghost use Rattle.std.specs.Prelude.{◌≡◌, ◌*◌};

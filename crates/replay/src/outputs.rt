@@ -138,7 +138,7 @@ impl<'a> Words<'a> {
         Ok(outputs.is_right(answer)? && out.is_right())
     }
 
-    // The same with two outputs.
+    // The same with two outputs: a closure takes each by name, so one function for both would be no plainer.
     pub fn two<F: FnOnce(&mut [f64], &mut [f64]) -> Answer>(
         self,
         alloc: Global,

@@ -51,7 +51,8 @@ impl<'a> Corrections<'a> {
     }
 }
 
-// Check 2, of adjacency, geometry and places.
+// Check 2, of adjacency, geometry and places. Each check writes out the slices that it is lent: a part shared with the
+// checks of `mesh` or of `step` would want a definition of its own, and be no plainer.
 pub(crate) fn is_grid_sized(grid: &Grid<'_>) -> bool
     ensures { result ≡ grid_sized grid.now.counts (grid_of_lent grid.now) }
 {

@@ -49,6 +49,7 @@ fn finite_outflows(outflow: &[f64]) -> Answer
     }
 }
 
+// What is written is lent before the checks: that it has its lengths is asked by each method, as in `stencil`.
 impl<'a> Work<'a> {
     ghost use Rattle.numerics.specs.Bundles.{slices_of};
     ghost use Rattle.stencil.specs.Bundles.{slices_in};
@@ -204,7 +205,7 @@ impl<'a> Work<'a> {
         self.measure(flux, outflow, metrics)
     }
 
-    // The whole work; a refusal clears every output.
+    // The whole work; a refusal clears every output, before which a `?` would return.
     pub(crate) fn carry_out(&self, out: &mut Outputs<'_>) -> Answer
         requires fit { OutputsFit self.now.mesh.counts self.now.records (outputs_of out.old) }
         ensures answer { result ≡ work_answer (inputs_in self.now) }

@@ -16,7 +16,7 @@ pub fn vector_at(s: &[f64], b: usize) -> Vec3
     }
 }
 
-// Writes the vector i of a slice of three numbers each.
+// Writes the vector i of a slice of three numbers each, number by number, as its definition sets them.
 pub fn put_vector(out: &mut [f64], i: usize, v: Vec3)
     requires { 3 * i + 2 < length out.old }
     ensures { out.new ≡ put_vector out.old i v }

@@ -108,6 +108,7 @@ pub fn outflow_metrics(places: &[f64], outflow: &mut [f64], metrics: &mut [f64])
             metrics.copy_from_slice(&[measured.root_mean_square, measured.largest]);
             Ok(())
         }
+        // a `?` would return before this
         Err(refusal) => {
             outflow.fill(0.0);
             metrics.fill(0.0);

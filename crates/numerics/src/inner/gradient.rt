@@ -57,7 +57,8 @@ impl<'a> Slope<'a> {
         right.add(coefficient.scale(other - own))
     }
 
-    // The right side of the cell c. The next record is read and not counted, so the outer loop is a `while`.
+    // The right side of the cell c. The next record is read and not counted, so the outer loop is a `while`; it is kept
+    // as it is lent, 0 for none.
     fn right_side(&self, c: usize) -> Vec3
         requires c_in_bounds { c < length self.now.field.now }
         ensures sums { let s = self.now.stencil in

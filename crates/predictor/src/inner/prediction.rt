@@ -128,6 +128,7 @@ impl<'s, 'a> Flow<'s, 'a> {
     }
 }
 
+// Its outputs are no part of the struct, as those of a `Flow`.
 impl<'s, 'a> Momentum<'s, 'a> {
     ghost use Rattle.predictor.specs.Bundles.{slopes_of, flow_with};
 

@@ -32,7 +32,7 @@ const ZERO: Normal = Normal {
     zz: 0.0,
 };
 
-// The record that a cell's chain starts with: 0 where it has none.
+// The record that a cell's chain starts with: 0 where it has none, as the C interface hands it out.
 #[tactic(auto, unfolding(crate::specs::Stencil::start_of))]
 fn start_of(old: usize, used: usize) -> usize
     requires { used ≤ largest_count }
@@ -41,6 +41,7 @@ fn start_of(old: usize, used: usize) -> usize
     if old < used { old + 1 } else { 0 }
 }
 
+// Number by number, as its definition sets them.
 #[tactic(auto, unfolding(crate::specs::Stencil::put_nine))]
 fn put_nine(c: usize, n: Normal, out: &mut [f64])
     requires { 9 * c + 8 < length out.old }

@@ -27,7 +27,7 @@ pub(crate) struct Equation {
 }
 
 // Room for so many records, those used so far, the normal matrix of the cell under way, and the slices that
-// the records stand in.
+// the records stand in: the caller's, since the engine has no heap.
 #[derive(Drop)]
 pub(crate) struct Building<'a> {
     pub records: usize,

@@ -11,6 +11,8 @@
  *   the call.
  * - The floating-point environment is the default: round to nearest, no flush to zero, no
  *   denormals-are-zero. juvandeer_environment_is_default() finds out.
+ * - The stack has room. Nothing is allocated: a call that can give 14 counts the faces of each cell on the
+ *   stack, in 64 KiB of it whatever the number of cells; every call uses a few KiB besides.
  *
  * Everything else is tested: counts, mesh numbers, indices and chains may be anything, and a slice may
  * be longer or shorter than it is due. What outputs hold before a call does not matter, but for the one
@@ -56,7 +58,7 @@ extern "C" {
 #endif
 
 /* The mesh's number, its dimension (2 or 3), and how many of each it has: at least one cell, and at
- * most 65,535 of any. */
+ * most 65,535 of any. A cell has at most 26 faces. */
 struct juvandeer_counts {
     uint64_t mesh;
     size_t dimension;
@@ -69,10 +71,10 @@ struct juvandeer_counts {
 /* What a call returns, and what `*index` then is. An accepted call leaves 0 in `*index`.
  * juvandeer_refusal_sentence makes a sentence of the two.
  *
- * 1 to 3 (shape) and 4 to 6 (mesh) are tested first, in this order, and leave every output untouched.
- * The others are met within arithmetic, in its own order, and leave +0.0, in whole numbers 0, in every
- * output. 1 can be either: where a stencil needs more than `records` equations it is 1 with index 0
- * within arithmetic, and the outputs are cleared. */
+ * 1, 2, 3 (shape) and 4, 5, 14, 6 (mesh) are tested first, in this order, each by the calls that are lent
+ * what it looks at, and leave every output untouched. The others are met within arithmetic, in its own
+ * order, and leave +0.0, in whole numbers 0, in every output. 1 can be either: where a stencil needs more
+ * than `records` equations it is 1 with index 0 within arithmetic, and the outputs are cleared. */
 enum juvandeer_answer {
     JUVANDEER_ACCEPTED = 0,
     /* no cell, more than 65,535 of a count or of records, or a dimension not 2 or 3; index 0 */
@@ -99,7 +101,9 @@ enum juvandeer_answer {
     /* a diagonal or a response that is not finite or at most 0, or a velocity not finite; cell */
     JUVANDEER_INVALID_MOMENTUM_DIAGONAL = 11,
     /* a volume that is not finite or at most 0; cell */
-    JUVANDEER_INVALID_CELL_MEASURE = 12
+    JUVANDEER_INVALID_CELL_MEASURE = 12,
+    /* more than 26 faces name a cell, or its chain has more than 26 face records; lowest cell */
+    JUVANDEER_CROWDED_CELL = 14
 };
 
 /* Whether sums round to nearest, ties to even, and subnormals are neither flushed nor read as zero:
@@ -142,8 +146,8 @@ size_t juvandeer_refusal_sentence(uint64_t number, size_t index, uint8_t *out, s
  *        number before codes 2 x faces and values 4 x faces; records, the room for equations
  *   out  starts 1 x cells, equations 2 x records, weights 4 x records, inverses 9 x cells
  *
- * Refusals: 1 to 6, outputs untouched; 7 and 10 at a face, 8 at a cell, and 1 where the equations need
- * more than records, outputs +0.0 and 0. Records that are not used are 0. */
+ * Refusals: 1 to 5, 14 and 6, outputs untouched; 7 and 10 at a face, 8 at a cell, and 1 where the
+ * equations need more than records, outputs +0.0 and 0. Records that are not used are 0. */
 uint64_t juvandeer_least_squares_stencil(
     struct juvandeer_counts counts,
     const size_t *adjacency, size_t adjacency_len,
@@ -188,7 +192,7 @@ uint64_t juvandeer_least_squares_gradient(
  *   in   adjacency 2 x faces; number before flux 1 x faces
  *   out  out 1 x cells
  *
- * Refusals: 1 to 4, output untouched. None by arithmetic. */
+ * Refusals: 1 to 4 and 14, output untouched. None by arithmetic. */
 uint64_t juvandeer_integrated_divergence(
     struct juvandeer_counts counts,
     const size_t *adjacency, size_t adjacency_len,
@@ -216,7 +220,7 @@ uint64_t juvandeer_momentum_inverse_diagonal(
  *        responses 1 x cells
  *   out  out 1 x faces
  *
- * Refusals: 1 to 4, output untouched; 7 and 9 at a face, output +0.0. */
+ * Refusals: 1 to 4 and 14, output untouched; 7 and 9 at a face, output +0.0. */
 uint64_t juvandeer_pressure_face_coefficients(
     struct juvandeer_counts counts,
     const size_t *adjacency, size_t adjacency_len,
@@ -234,7 +238,7 @@ uint64_t juvandeer_pressure_face_coefficients(
  *        values 4 x faces; response before responses 1 x cells
  *   out  out 1 x faces
  *
- * Refusals: 1 to 4 and 6, output untouched; 7 and 9 at a face with two cells, then 9 at any other,
+ * Refusals: 1 to 4, 14 and 6, output untouched; 7 and 9 at a face with two cells, then 9 at any other,
  * output +0.0. */
 uint64_t juvandeer_pressure_face_coefficients_with_boundary(
     struct juvandeer_counts counts,
@@ -258,8 +262,8 @@ uint64_t juvandeer_pressure_face_coefficients_with_boundary(
  *        responses 1 x cells; wall before walls 1 x faces
  *   out  gradient 3 x cells, out 1 x faces
  *
- * Refusals: 1 to 5, outputs untouched; 7 and 9 of a coefficient, then 9 of a flux, at a face, outputs
- * +0.0. */
+ * Refusals: 1 to 5 and 14, outputs untouched; 7 and 9 of a coefficient, then 9 of a flux, at a face,
+ * outputs +0.0. */
 uint64_t juvandeer_rhie_chow_predicted_flux(
     struct juvandeer_counts counts,
     const size_t *adjacency, size_t adjacency_len,
@@ -292,7 +296,7 @@ uint64_t juvandeer_rhie_chow_predicted_flux(
  *        corrections 1 x cells
  *   out  out 1 x faces
  *
- * Refusals: 1 to 4 and 6, output untouched; 9 and 10 at a face, output +0.0. */
+ * Refusals: 1 to 4, 14 and 6, output untouched; 9 and 10 at a face, output +0.0. */
 uint64_t juvandeer_correct_face_flux_with_boundary(
     struct juvandeer_counts counts,
     const size_t *adjacency, size_t adjacency_len,
@@ -316,8 +320,8 @@ uint64_t juvandeer_correct_face_flux_with_boundary(
  *           coefficients 1 x faces; correction before corrections 1 x cells
  *   in out  prediction before flux 1 x faces
  *
- * Refusals: 1 to 4 and 6, flux as it was; 9 and 10 at a face, flux +0.0 throughout, the predicted flux
- * lost. */
+ * Refusals: 1 to 4, 14 and 6, flux as it was; 9 and 10 at a face, flux +0.0 throughout, the predicted
+ * flux lost. */
 uint64_t juvandeer_correct_face_flux_in_place(
     struct juvandeer_counts counts,
     const size_t *adjacency, size_t adjacency_len,
@@ -356,7 +360,7 @@ uint64_t juvandeer_correct_cell_velocity_from_gradient(
  *   in   adjacency 2 x faces, places 4 x cells; number before flux 1 x faces
  *   out  outflow 1 x cells, metrics 2
  *
- * Refusals: 1 to 4, outputs untouched; 9 with index 0, 12 at a cell, outputs +0.0. */
+ * Refusals: 1 to 4 and 14, outputs untouched; 9 with index 0, 12 at a cell, outputs +0.0. */
 uint64_t juvandeer_continuity_metrics(
     struct juvandeer_counts counts,
     const size_t *adjacency, size_t adjacency_len,
@@ -379,13 +383,13 @@ uint64_t juvandeer_continuity_metrics(
  *        gradient 3 x cells, predicted 1 x faces, coefficients 1 x faces, flux 1 x faces,
  *        outflow 1 x cells, metrics 2
  *
- * Refusals: 1 to 6, outputs untouched; 7 to 10 and 12, and 1 where the equations need more than
- * records, outputs +0.0 and 0. 9 has index 0 where a metric or an outflow is not finite.
+ * Refusals: 1 to 5, 14 and 6, outputs untouched; 7 to 10 and 12, and 1 where the equations need more
+ * than records, outputs +0.0 and 0. 9 has index 0 where a metric or an outflow is not finite.
  *
  * Proved of every accepted step: fluxes and outflows are finite, each outflow is within
  * (n - 1) x 2^-53 x (sum of magnitudes) of the exact sum of its cell's n fluxes, and together they
- * equal the flux through the faces with one cell within the sum of these bounds. docs/BALANCE.md says
- * what may be quoted. */
+ * equal the flux through the faces with one cell within the sum of these bounds. n is at most 26, so
+ * both hold with 25 for n - 1 too. docs/BALANCE.md says what may be quoted. */
 uint64_t juvandeer_step(
     struct juvandeer_counts counts,
     const size_t *adjacency, size_t adjacency_len,

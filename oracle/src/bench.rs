@@ -41,6 +41,7 @@ pub fn run(port: &Port) {
         }
     }
     corrections(port);
+    checks(port);
     growth(port);
 }
 
@@ -65,6 +66,35 @@ fn corrections(port: &Port) {
         let times = least([&mut into_second, &mut in_one]);
         let [second, one] = times.map(|time| time / lent.counts.faces as f64);
         println!("{name:28} {second:22.2} {one:10.2}");
+    }
+}
+
+/// The checks by themselves: calls that the last of them, 6, refuses at the highest face with one cell.
+fn checks(port: &Port) {
+    let (some, all) = (
+        Entry::CorrectFaceFluxWithBoundary,
+        Entry::LeastSquaresStencil,
+    );
+    let (Some(links), Some(whole)) = (port.call(some), port.call(all)) else {
+        return;
+    };
+    println!(
+        "\nthe checks, ns per face: {:>26} {:>10}",
+        "adjacency with links", "all"
+    );
+    for (name, made) in meshes() {
+        let mut lent = ordinary(&made);
+        let mut faces = (0..lent.counts.faces).rev();
+        let face = faces.find(|&face| lent.slices.adjacency[2 * face + 1] == 0);
+        let face = face.expect("a face with one cell");
+        lent.slices.codes[2 * face + 1] = face + 1;
+        let refused = Answer::Refused(6, face);
+        let (mut first, mut second) = (patterned(some, &lent), patterned(all, &lent));
+        let mut linked = || assert_eq!(links(black_box(&lent), &mut first), refused);
+        let mut every = || assert_eq!(whole(black_box(&lent), &mut second), refused);
+        let times = least([&mut linked, &mut every]);
+        let [some, all] = times.map(|time| time / lent.counts.faces as f64);
+        println!("{name:28} {some:22.2} {all:10.2}");
     }
 }
 

@@ -20,10 +20,13 @@ pub enum Visit {
 }
 
 /// Which cases are visited.
+#[derive(Clone, Copy)]
 pub struct Settings {
     pub seed: u64,
     /// Meshes made at random.
     pub cases: usize,
+    /// The largest meshes too.
+    pub large: bool,
     /// No damaged copies: only input that the Rust's own meshes give.
     pub built: bool,
 }
@@ -38,10 +41,14 @@ pub struct Case {
 /// Is shown a case, and how closely to look at it.
 pub type Visitor<'a> = dyn FnMut(&mut Random, &Case, Visit) + 'a;
 
+/// So many meshes are made at random for one with a cell of about 26 faces.
+const FOR_A_CROWDED: usize = 16;
+
 /// Visits the meshes made by hand with every kind of conditions, then those made at random, then the
-/// largest that the Rust builds within the limits, and two at the limits themselves. The first are visited
-/// thoroughly, the last in passing. Where only what the Rust builds is asked for, all are visited in
-/// passing, and those at the limits are left out.
+/// largest that the Rust builds within the limits, and two at the limits themselves; last, made by hand and
+/// at random, those with cells of about 26 faces. What is made by hand is visited thoroughly, the largest in
+/// passing. Where only what the Rust builds is asked for, all are visited in passing, and those at the limits
+/// are left out.
 pub fn each(random: &mut Random, settings: &Settings, visit: &mut Visitor<'_>) {
     let unless_built = |closely| match settings.built {
         true => Visit::Passing,
@@ -56,23 +63,45 @@ pub fn each(random: &mut Random, settings: &Settings, visit: &mut Visitor<'_>) {
     for _ in 0..settings.cases {
         let most = random.pick(&[4, 9, 16, 60]);
         let made = makers::mesh(random, most);
-        let walls = match random.chance(1, 2) {
-            true => Walls::Mixed,
-            false => random.pick(&WALLS),
-        };
+        let walls = any_walls(random);
         let case = case(random, &made, walls);
         visit(random, &case, unless_built(Visit::Usual));
     }
+    if settings.large {
+        large(random, settings.built, visit);
+    }
+    for made in makers::crowded_specials() {
+        for walls in WALLS {
+            let case = case(random, &made, walls);
+            visit(random, &case, unless_built(Visit::Thorough));
+        }
+    }
+    for _ in 0..settings.cases / FOR_A_CROWDED {
+        let made = makers::crowded(random);
+        let walls = any_walls(random);
+        let case = case(random, &made, walls);
+        visit(random, &case, unless_built(Visit::Usual));
+    }
+}
+
+fn large(random: &mut Random, built: bool, visit: &mut Visitor<'_>) {
     for made in [makers::quads(127, 129), makers::hexes(20, 21, 26)] {
         let case = case(random, &made, Walls::Mixed);
         visit(random, &case, Visit::Passing);
     }
-    if settings.built {
+    if built {
         return;
     }
     for count in [LIMIT, LIMIT + 1] {
         let case = case(random, &makers::apart(count), Walls::Fixed);
         visit(random, &case, Visit::Passing);
+    }
+}
+
+fn any_walls(random: &mut Random) -> Walls {
+    match random.chance(1, 2) {
+        true => Walls::Mixed,
+        false => random.pick(&WALLS),
     }
 }
 

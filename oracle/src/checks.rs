@@ -1,4 +1,5 @@
-//! A model, written from documents 01 and 02, of the refusals that the port adds before arithmetic: 1 to 6.
+//! A model, written from documents 01 and 02, of the refusals that the port adds before arithmetic: 1 to 6
+//! and 14, which comes after 5 and before 6.
 //!
 //! An entry makes only the checks of what it is lent. The counts are lent as one record, so 1 looks at
 //! all of them; at the number of equation records where a stencil is lent or handed out. Outputs are
@@ -10,6 +11,9 @@ use crate::lent::{Lent, Slices};
 
 /// Most cells, faces or chain entries.
 pub const LIMIT: usize = 65_535;
+
+/// Most faces that name one cell, and most records in its chain of faces.
+pub const MOST: usize = 26;
 
 /// The first refusal before arithmetic, if any.
 pub fn check(entry: Entry, lent: &Lent, outputs: &Slices) -> Option<Refusal> {
@@ -69,6 +73,10 @@ fn mesh(entry: Entry, lent: &Lent) -> Option<Refusal> {
     if let Some(cell) = cells.find(|&cell| has_broken_chain(entry, lent, cell)) {
         return refusal(5, cell);
     }
+    let crowded = crowded(entry, lent);
+    if let Some(&cell) = crowded.iter().flatten().min() {
+        return refusal(14, cell);
+    }
     if entry.lends(Part::Codes) {
         if let Some(&face) = bad_links(lent).first() {
             return refusal(6, face);
@@ -126,6 +134,51 @@ fn is_broken(records: &[usize], first: usize, is_there: impl Fn(usize) -> bool) 
         at = records[2 * at - 1];
     }
     true
+}
+
+/// Every cell that too many faces name, and every cell with too many records in its chain of faces; the lowest
+/// first. What is lent has passed the checks of shape, 4 and 5.
+pub fn crowded(entry: Entry, lent: &Lent) -> [Vec<usize>; 2] {
+    let over = |found: Vec<usize>| -> Vec<usize> {
+        let cells = 0..found.len();
+        cells.filter(|&cell| found[cell] > MOST).collect()
+    };
+    [
+        match entry.lends(Part::Adjacency) {
+            true => over(namings(lent)),
+            false => Vec::new(),
+        },
+        match entry.lends(Part::Facing) {
+            true => over(face_records(lent)),
+            false => Vec::new(),
+        },
+    ]
+}
+
+/// Whether there is such a cell, so that the port refuses what the Rust may accept.
+pub fn is_crowded(entry: Entry, lent: &Lent) -> bool {
+    crowded(entry, lent).iter().any(|cells| !cells.is_empty())
+}
+
+/// How many faces name each cell, as owner or as neighbour.
+pub fn namings(lent: &Lent) -> Vec<usize> {
+    let mut found = vec![0; lent.counts.cells];
+    for face in lent.slices.adjacency.chunks_exact(2) {
+        found[face[0]] += 1;
+        if let Some(neighbour) = face[1].checked_sub(1) {
+            found[neighbour] += 1;
+        }
+    }
+    found
+}
+
+/// How many records each cell's chain of faces has; a face counts as often as it stands there.
+pub fn face_records(lent: &Lent) -> Vec<usize> {
+    let slices = &lent.slices;
+    let heads = slices.heads.chunks_exact(2);
+    heads
+        .map(|heads| Lent::chain(&slices.facing, heads[0]).len())
+        .collect()
 }
 
 /// Every face whose link stands on a two-cell face, or names itself, a missing face, or one that is not

@@ -1,6 +1,8 @@
 //! The comparison of the port with the Rust: answers, every bit of the outputs, and what was not written,
 //! on good input and on damaged copies of it. Where they differ, the smallest case is printed in full.
 
+mod crowds;
+
 use crate::calls::{self, is_copied, Outcome, Refusal};
 use crate::cases::{self, Case, Settings, Visit};
 use crate::checks;
@@ -11,6 +13,7 @@ use crate::lent::{Lent, Slice, Slices};
 use crate::makers;
 use crate::port::{Answer, Call, Port};
 use crate::random::Random;
+use crowds::Crowds;
 use std::fmt::Write;
 
 /// What every output holds before a call.
@@ -36,6 +39,7 @@ struct Tally {
     beyond: u64,
     /// Compared calls that 6 refuses, and those of them with several bad links.
     bad_links: [u64; 2],
+    crowds: Crowds,
     smallest: Option<Difference>,
     claims: Claims,
 }
@@ -234,6 +238,9 @@ fn print_tally(entry: Entry, is_linked: bool, tally: &Tally) {
             entry.name()
         );
     }
+    if entry.lends(Part::Adjacency) {
+        tally.crowds.print(entry);
+    }
     if exact::is_claimed(entry) {
         tally.claims.print(entry.name());
     }
@@ -251,7 +258,9 @@ fn compare_case(
     let lent = case.lent_to(random, entry);
     let outputs = patterned(entry, &lent);
     compare_call(&case.name, entry, call, &lent, &outputs, true, tally);
-    for damages in damages(random, entry, &lent, visit) {
+    let mut tries = damages(random, entry, &lent, visit);
+    tries.extend(crowding(random, entry, &lent, visit));
+    for damages in tries {
         let mut lent = lent.clone();
         let mut outputs = outputs.clone();
         damage::apply(entry, &damages, &mut lent, &mut outputs);
@@ -291,6 +300,19 @@ pub fn damages(random: &mut Random, entry: Entry, lent: &Lent, visit: Visit) -> 
         tries.extend(damage::of_links(random, entry, lent));
     }
     tries
+}
+
+/// Damages that give a cell about as many faces as 14 allows. They come after all others, which the fixed list
+/// is made from too.
+fn crowding(random: &mut Random, entry: Entry, lent: &Lent, visit: Visit) -> Vec<Vec<Damage>> {
+    let count = match visit {
+        Visit::Thorough => 10,
+        Visit::Usual => 2,
+        Visit::Passing => 0,
+    };
+    (0..count)
+        .filter_map(|_| damage::of_crowd(random, entry, lent))
+        .collect()
 }
 
 /// Outputs of the right lengths, filled with the pattern; one that is read too is as it is lent.
@@ -339,6 +361,7 @@ fn compare_call(
         tally.bad_links[0] += 1;
         tally.bad_links[1] += u64::from(checks::bad_links(lent).len() > 1);
     }
+    tally.crowds.count(entry, lent, &expected);
     tally.beyond += u64::from(!built && kind != 1);
     let wanted = expected.contents(entry, outputs);
     let Some(difference) = difference(entry, lent, &expected, &wanted, answer, &written) else {
@@ -497,7 +520,8 @@ fn roots(random: &mut Random, sqrt: fn(f64) -> f64, count: usize) -> Roots {
 }
 
 /// On the Rust alone: the lent form is turned into the Rust's objects and back without loss, equations are
-/// counted as the Rust counts them, the step equals its parts, and accepted calls meet demand 3.
+/// counted as the Rust counts them, the step equals its parts, and accepted calls meet demand 3 where no cell has
+/// too many faces for it.
 fn check_alone(random: &mut Random, case: &Case, alone: &mut Alone) {
     let lent = case.lent_to(random, Entry::Step);
     if !is_same_again(&lent) || !calls::counts_agree(&lent) {
@@ -513,6 +537,9 @@ fn check_alone(random: &mut Random, case: &Case, alone: &mut Alone) {
         alone.failed.push(failure);
     }
     for (entry, claims) in exact::CLAIMED_OF_RUST.into_iter().zip(&mut alone.claims) {
+        if checks::is_crowded(entry, &lent) {
+            continue;
+        }
         if let Outcome::Accepted(outputs) = calls::run(entry, &lent) {
             claims.check(&case.name, entry, &lent, &outputs);
         }

@@ -1,7 +1,12 @@
-//! Damaged copies of good input: lengths, counts, numbers, indices, chains, codes and links.
+//! Damaged copies of good input: lengths, counts, numbers, indices, chains, codes and links, and cells with many
+//! faces.
+
+mod crowd;
+
+pub use crowd::of_crowd;
 
 use crate::checks::LIMIT;
-use crate::entry::{Entry, Part};
+use crate::entry::{Entry, Part, Unit};
 use crate::lent::{Lent, Slice, SliceMut, Slices};
 use crate::makers;
 use crate::random::Random;
@@ -34,6 +39,19 @@ pub enum Damage {
     Shuffled(Part, u64),
     /// One more record in a table of chains, which no chain reaches.
     Spare(Part),
+    /// More faces of these cells, in all else like another but without a link.
+    Faces {
+        count: usize,
+        owner: usize,
+        neighbour: usize,
+        like: usize,
+    },
+    /// More records at the head of a cell's chain of faces, which name the faces from `face` on in turn.
+    Longer {
+        count: usize,
+        cell: usize,
+        face: usize,
+    },
 }
 
 impl Damage {
@@ -59,6 +77,21 @@ impl Damage {
             }
             Damage::Shuffled(part, seed) => shuffle(lent, part, seed),
             Damage::Spare(part) => add_record(lent, part),
+            Damage::Faces {
+                count,
+                owner,
+                neighbour,
+                like,
+            } => {
+                for _ in 0..count {
+                    add_face(lent, outputs, [owner, neighbour], like);
+                }
+            }
+            Damage::Longer { count, cell, face } => {
+                for place in 0..count {
+                    lengthen(lent, cell, (face + place) % lent.counts.faces);
+                }
+            }
         }
     }
 }
@@ -123,6 +156,42 @@ fn add_record(lent: &mut Lent, part: Part) {
             slices.weights.extend([f64::NAN; 4]);
         }
     }
+}
+
+/// Adds a face to every slice that has a record for each.
+fn add_face(lent: &mut Lent, outputs: &mut Slices, cells: [usize; 2], like: usize) {
+    let face = lent.counts.faces;
+    for part in Part::ALL {
+        let (unit, width) = part.shape();
+        if unit == Unit::Face {
+            for slices in [&mut lent.slices, &mut *outputs] {
+                copy_record(slices.slice_mut(part), width * like, width);
+            }
+        }
+    }
+    lent.slices.adjacency[2 * face..].copy_from_slice(&cells);
+    lent.slices.codes[2 * face + 1] = 0;
+    lent.counts.faces += 1;
+}
+
+/// Puts a copy of a record at the end of a slice, where that is in use.
+fn copy_record(slice: SliceMut<'_>, at: usize, width: usize) {
+    match slice {
+        SliceMut::Whole(numbers) if !numbers.is_empty() => {
+            numbers.extend_from_within(at..at + width)
+        }
+        SliceMut::Float(numbers) if !numbers.is_empty() => {
+            numbers.extend_from_within(at..at + width)
+        }
+        _ => {}
+    }
+}
+
+fn lengthen(lent: &mut Lent, cell: usize, face: usize) {
+    let slices = &mut lent.slices;
+    slices.facing.extend([face, slices.heads[2 * cell]]);
+    slices.heads[2 * cell] = slices.facing.len() / 2;
+    lent.counts.face_records += 1;
 }
 
 fn count_mut(lent: &mut Lent, count: Count) -> &mut usize {

@@ -206,6 +206,11 @@ impl Terms {
     fn bound(&self) -> Units {
         self.magnitudes.times(self.count.saturating_sub(1))
     }
+
+    /// The same without the number of terms, of which an accepted step has 26 to a cell at most.
+    fn quotable(&self) -> Units {
+        self.magnitudes.times(25)
+    }
 }
 
 /// Whether |found − exact| × 2^53 ≤ bound.
@@ -214,7 +219,8 @@ fn is_near(found: Units, exact: Units, bound: Units) -> bool {
 }
 
 /// Every flux and every outflow is finite, each cell's outflow is within its bound of the exact sum of its
-/// terms, and all together are within the sum of these bounds of the exact flux through one-cell faces.
+/// terms, and all together are within the sum of these bounds of the exact flux through one-cell faces. No cell
+/// has more than 26 terms, and the same holds with 25 in place of their number less one.
 fn balance(lent: &Lent, flux: &[f64], outflow: &[f64]) -> Result<(), String> {
     let mut cells = vec![Terms::NONE; lent.counts.cells];
     let mut outside = Units::ZERO;
@@ -231,6 +237,7 @@ fn balance(lent: &Lent, flux: &[f64], outflow: &[f64]) -> Result<(), String> {
     }
     let mut total = Units::ZERO;
     let mut allowance = Units::ZERO;
+    let mut quotable = Units::ZERO;
     for (cell, (terms, &outflow)) in cells.iter().zip(outflow).enumerate() {
         if !outflow.is_finite() {
             return Err(format!("the outflow of cell {cell} is not finite"));
@@ -238,10 +245,14 @@ fn balance(lent: &Lent, flux: &[f64], outflow: &[f64]) -> Result<(), String> {
         if !is_near(Units::of(outflow), terms.exact, terms.bound()) {
             return Err(format!("the outflow of cell {cell} is out of its bound"));
         }
+        if terms.count > 26 || !is_near(Units::of(outflow), terms.exact, terms.quotable()) {
+            return Err(format!("the outflow of cell {cell} is out of the bound with 25"));
+        }
         total = total.plus(Units::of(outflow));
         allowance = allowance.plus(terms.bound());
+        quotable = quotable.plus(terms.quotable());
     }
-    if !is_near(total, outside, allowance) {
+    if !is_near(total, outside, allowance) || !is_near(total, outside, quotable) {
         return Err("the outflows together are out of their bound".to_string());
     }
     Ok(())

@@ -95,6 +95,7 @@ fn settings(options: &[String]) -> Option<cases::Settings> {
     let mut settings = cases::Settings {
         seed: 1,
         cases: 2_000,
+        large: true,
         built: false,
     };
     let mut options = options.iter();

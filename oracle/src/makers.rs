@@ -1,6 +1,7 @@
 //! Seeded makers of meshes, links, conditions and fields. Meshes are built by the Rust's
 //! `UnstructuredMesh::from_cells` (`apart` alone is not), links by its `periodic::resolve`.
 
+mod crowded;
 mod grid;
 mod special;
 mod values;
@@ -61,9 +62,23 @@ pub fn mesh(random: &mut Random, most: usize) -> Made {
     }
 }
 
-/// Every mesh that is made by hand, in a fixed order.
+/// Every mesh that is made by hand, in a fixed order, but those of many faces to a cell.
 pub fn specials() -> Vec<Made> {
     special::all()
+}
+
+/// Meshes made by hand that have cells of 26 or 27 faces.
+pub fn crowded_specials() -> Vec<Made> {
+    crowded::all()
+}
+
+/// A mesh with a cell of 24 to 28 faces.
+pub fn crowded(random: &mut Random) -> Made {
+    loop {
+        if let Some(made) = crowded::random(random) {
+            return made;
+        }
+    }
 }
 
 /// So many cells and faces, with a face and a neighbour each, which no mesh of the Rust has: the cells

@@ -1,6 +1,8 @@
 //! The comparison tried on itself: a port that is the checks and the Rust must agree, that port spoiled in
 //! one way must be caught, and so must outputs that break demand 3.
 
+mod crowded;
+
 use crate::calls::{self, Outcome};
 use crate::cases::{self, Settings};
 use crate::checks;
@@ -29,12 +31,16 @@ pub fn run(settings: &Settings) -> bool {
         entries: entries.into(),
     };
     let mut all_right = compare::run(&port, settings);
+    let small = Settings {
+        large: false,
+        ..*settings
+    };
     let mut try_sham = |name: &str, port: Port| {
-        let differ = compare::differing(&port, settings);
+        let differ = compare::differing(&port, &small);
         println!("sham, {name}: {differ} differ");
         all_right &= differ > 0;
     };
-    for sham in SHAMS {
+    for sham in SHAMS.iter().chain(crowded::SHAMS) {
         let port = Port {
             sqrt: None,
             entries: vec![(sham.entry, spoiled(sham))],
@@ -63,6 +69,9 @@ fn breaches_are_caught(settings: &Settings) -> bool {
     cases::each(&mut random, settings, &mut |random, case, _| {
         for (breach, (tried, caught)) in BREACHES.iter().zip(&mut counts) {
             let lent = case.lent_to(random, breach.entry);
+            if checks::is_crowded(breach.entry, &lent) {
+                continue;
+            }
             let Outcome::Accepted(mut outputs) = calls::run(breach.entry, &lent) else {
                 continue;
             };
@@ -293,7 +302,7 @@ const SHAMS: &[Sham] = &[
         name: "the predicted field cleared by a check",
         entry: Entry::CorrectFaceFluxInPlace,
         fault: |_, _, outputs, answer| {
-            if let Answer::Refused(1..=6, _) = answer {
+            if let Answer::Refused(1..=6 | 14, _) = answer {
                 outputs.predicted.fill(0.0);
             }
             answer
@@ -334,7 +343,7 @@ const SHAMS: &[Sham] = &[
         name: "outputs cleared before the checks",
         entry: Entry::RhieChowPredictedFlux,
         fault: |_, _, outputs, answer| {
-            if let Answer::Refused(1..=6, _) = answer {
+            if let Answer::Refused(1..=6 | 14, _) = answer {
                 for part in Entry::RhieChowPredictedFlux.outputs() {
                     if let SliceMut::Float(numbers) = outputs.slice_mut(*part) {
                         numbers.fill(0.0);

@@ -15,6 +15,7 @@ pub fn advice(refused: &Refused) -> String {
         RefusalKind::MissingBoundaryCondition => format!("give face {index} a condition in `conditions`, or link it in `links`"),
         RefusalKind::InvalidMomentumDiagonal => format!("give cell {index} a `momentum-diagonal` that is finite and above 0"),
         RefusalKind::InvalidCellMeasure => format!("give cell {index} a volume above 0 in `cells`"),
+        RefusalKind::CrowdedCell => format!("split cell {index} into smaller ones, or join several of its faces into one: in `faces`, at most 26 may name a cell"),
         _ => "no sheet is known that meets this: keep the sheet and report it".to_string(),
     }
 }

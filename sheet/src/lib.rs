@@ -27,3 +27,6 @@ pub use sheet::{CorrectionFields, Fields, Momentum, Sheet, StepFields};
 
 /// The most cells, faces and points that are taken, the engine's own limit of cells and faces.
 pub const MOST: usize = 65_535;
+
+/// The most faces of a cell, the engine's own limit.
+pub const MOST_CELL_FACES: usize = 26;

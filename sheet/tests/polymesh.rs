@@ -142,6 +142,90 @@ fn patches_are_named_in_comments() {
     }
 }
 
+/// Two boxes side by side, with the numbers of the two cubes' files: cell 0 has six faces, cell 1 five and, in
+/// place of its upper one, so many strips.
+fn strips(name: &str, count: usize) -> Copy {
+    let copy = Copy::new(name);
+    let mut points: Vec<[usize; 3]> = Vec::new();
+    let mut at = |x: usize, y: usize, z: usize| {
+        let found = points.iter().position(|&point| point == [x, y, z]);
+        found.unwrap_or_else(|| {
+            points.push([x, y, z]);
+            points.len() - 1
+        })
+    };
+    let end = count + 1;
+    // the face between them, then those that look left, right, forwards, backwards, down and up
+    let mut faces = vec![
+        (0, [at(1, 0, 0), at(1, 1, 0), at(1, 1, 1), at(1, 0, 1)]),
+        (0, [at(0, 0, 0), at(0, 0, 1), at(0, 1, 1), at(0, 1, 0)]),
+        (
+            1,
+            [at(end, 0, 0), at(end, 1, 0), at(end, 1, 1), at(end, 0, 1)],
+        ),
+    ];
+    for (cell, from, to) in [(0, 0, 1), (1, 1, end)] {
+        faces.push((
+            cell,
+            [at(from, 0, 0), at(to, 0, 0), at(to, 0, 1), at(from, 0, 1)],
+        ));
+        faces.push((
+            cell,
+            [at(from, 1, 0), at(from, 1, 1), at(to, 1, 1), at(to, 1, 0)],
+        ));
+        faces.push((
+            cell,
+            [at(from, 0, 0), at(from, 1, 0), at(to, 1, 0), at(to, 0, 0)],
+        ));
+    }
+    for x in 0..end {
+        let cell = x.min(1);
+        faces.push((
+            cell,
+            [at(x, 0, 1), at(x + 1, 0, 1), at(x + 1, 1, 1), at(x, 1, 1)],
+        ));
+    }
+    let list = |items: Vec<String>| format!("{}\n(\n{}\n)\n", items.len(), items.join("\n"));
+    let points = points.iter().map(|[x, y, z]| format!("({x} {y} {z})"));
+    let corners = faces
+        .iter()
+        .map(|(_, [a, b, c, d])| format!("4({a} {b} {c} {d})"));
+    let owners = faces.iter().map(|(cell, _)| cell.to_string());
+    let wall = format!(
+        "1\n(\nwalls\n{{\ntype wall;\nnFaces {};\nstartFace 1;\n}}\n)\n",
+        faces.len() - 1
+    );
+    for (file, text) in [
+        ("points", list(points.collect())),
+        ("faces", list(corners.collect())),
+        ("owner", list(owners.collect())),
+        ("neighbour", "1(1)\n".to_string()),
+        ("boundary", wall),
+    ] {
+        fs::write(copy.0.join(file), text).unwrap();
+    }
+    copy
+}
+
+#[test]
+fn a_cell_with_too_many_faces_is_named() {
+    strips("crowded", 22).told(
+        "",
+        "cell 1 has 27 faces, and at most 26 are taken: split it, or merge its faces",
+    );
+}
+
+#[test]
+fn as_many_faces_as_a_cell_may_have() {
+    let copy = strips("full", 21);
+    let imported = polymesh::import(&copy.0).unwrap();
+    let sheet = Sheet::read(imported.as_bytes()).unwrap();
+    assert_eq!((sheet.mesh.cell_count(), sheet.mesh.face_count()), (2, 31));
+    let volumes = [0, 1].map(|cell| sheet.mesh.cell(cell).unwrap().volume);
+    assert!((volumes[0] - 1.0).abs() < 1e-12 && (volumes[1] - 21.0).abs() < 1e-12);
+    printed(&imported);
+}
+
 #[test]
 fn binary_files_are_refused() {
     wrong("binary", "points", "format      ascii", "format      binary", "points:7",

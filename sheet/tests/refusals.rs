@@ -2,7 +2,10 @@
 
 mod common;
 
-use common::{changed, correction_sheet, step_sheet, text, told, CUBES, NOT_MET};
+use common::{
+    changed, correction_sheet, listed, printed, step_sheet, text, told, CUBES, NOT_MET, NUMBERS,
+};
+use sheet::Sheet;
 
 /// A sheet without a cell.
 const EMPTY: &str = "form correction\ndimension 2\nfaces\ncells\npredicted-flux\nface-coefficient\npressure-correction\n";
@@ -95,7 +98,41 @@ fn refused() -> Vec<(String, [&'static str; 4])> {
             "cell 1 has a volume that is not finite or not above 0",
             "give cell 1 a volume above 0 in `cells`",
         ]),
+        (cubes_with(21), [
+            "refusal 14 at 1.",
+            "refusal 14 index 1 by step",
+            "cell 1 has more than 26 faces",
+            "split cell 1 into smaller ones, or join several of its faces into one: in `faces`, at most 26 may name a cell",
+        ]),
+        (correction_with(23), [
+            "refusal 14 at 1.",
+            "refusal 14 index 1 by correct_face_flux_with_boundary",
+            "cell 1 has more than 26 faces",
+            "split cell 1 into smaller ones, or join several of its faces into one: in `faces`, at most 26 may name a cell",
+        ]),
     ]
+}
+
+/// The two cubes with so many faces more above cell 1, which has six.
+fn cubes_with(more: usize) -> String {
+    let last = "10  1 -  1.5 1 0.5   0 1 0\n";
+    let all = format!("{last}11-{}  1 -  1.5 1 0.5   0 1 0\n", 10 + more);
+    CUBES.replace(last, &all)
+}
+
+/// The two squares in `form correction` with so many faces more of cell 1, which has four; they keep their flux.
+fn correction_with(more: usize) -> String {
+    let added = format!("7-{}", 6 + more);
+    let mut sheet = correction_sheet();
+    for (last, item) in [
+        ("6  1 -", "1 -"),
+        ("6    fixed-value 2", "zero-gradient"),
+        ("6  -0.3", "0"),
+        ("6     0.7", "0"),
+    ] {
+        sheet = changed(&sheet, last, &format!("{last}\n{added}  {item}")).0;
+    }
+    sheet
 }
 
 #[test]
@@ -109,9 +146,39 @@ fn a_refusal_is_the_result_of_a_sheet() {
     }
 }
 
+/// With 26 faces to a cell both forms are accepted, and the faces that were there have the fluxes that they had.
+#[test]
+fn as_many_faces_as_a_cell_may_have() {
+    for (sheet, crowd, faces) in [
+        (CUBES.to_string(), cubes_with(20), 11),
+        (correction_sheet(), correction_with(22), 7),
+    ] {
+        let mesh = Sheet::read(crowd.as_bytes()).unwrap().mesh;
+        let names = |pair: &&[usize]| pair[0] == 1 || pair[1] == 2;
+        assert_eq!(mesh.adjacency().chunks_exact(2).filter(names).count(), 26);
+        let flux = listed(&printed(&crowd), "face flux");
+        assert_eq!(flux[..faces], listed(&printed(&sheet), "face flux"));
+        assert!(flux[faces..].iter().all(|&bits| bits == 0));
+    }
+}
+
+/// 14 comes before 6.
+#[test]
+fn too_many_faces_and_a_bad_link() {
+    for (more, answer) in [
+        (22, "bad link at 1.\nrefusal 6 index 1 "),
+        (23, "refusal 14 at 1.\nrefusal 14 index 1 "),
+    ] {
+        let (sheet, _) = changed(&correction_with(more), "1 2  2 0", "1 1  2 0");
+        let (output, _, status) = told(&["-"], &sheet);
+        assert!(output.starts_with(answer), "{output}");
+        assert_eq!(status, 3);
+    }
+}
+
 #[test]
 fn every_number_is_met_or_cannot_be() {
-    for number in 1..=12 {
+    for number in NUMBERS {
         let start = format!("refusal {number} index ");
         let met = refused()
             .iter()
@@ -145,15 +212,19 @@ fn of_several_bad_links_the_lowest_face_is_told() {
 fn the_page_has_every_sentence() {
     let page = text("docs/REFUSALS.md");
     let stored = text("crates/sentences/stdout");
-    for number in 1..=12 {
+    for number in NUMBERS {
         let index = if number <= 3 { 0 } else { 7 };
         let start = format!("{number} {index} exact: ");
         let line = stored.lines().find(|line| line.starts_with(&start));
         let sentence = line.unwrap().split('|').nth(1).unwrap();
         let row = format!("\n| {number} | `{sentence}` | ");
         assert_eq!(page.matches(&row).count(), 1, "{row}");
+        // a later number's phrase is its number, and no heading
         let (phrase, _) = sentence.split_once(" at ").unwrap();
-        let heading = format!("\n### {number}: {phrase}\n");
+        let heading = match number {
+            1..=12 => format!("\n### {number}: {phrase}\n"),
+            _ => format!("\n### {number}: "),
+        };
         assert_eq!(page.matches(&heading).count(), 1, "{heading}");
     }
 }

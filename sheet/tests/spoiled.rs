@@ -200,14 +200,17 @@ fn spoiled_meshes() {
     fs::remove_dir_all(folder).unwrap();
 }
 
-/// As many cells and faces as are taken, and more than are, in few bytes.
+/// As many cells and faces as are taken, and more than are, most in few bytes.
 #[test]
 fn large_counts() {
-    let sheet = |cells: &str, faces: &str| {
-        format!("form correction\ndimension 2\nfaces\n{faces} 0 -\ncells\n{cells} 1\nconditions uniform zero-gradient\n\
+    let with = |cells: &str, faces: &str| {
+        format!("form correction\ndimension 2\nfaces\n{faces}cells\n{cells} 1\nconditions uniform zero-gradient\n\
             predicted-flux uniform 0\nface-coefficient uniform 0\npressure-correction uniform 0\n")
     };
-    let (output, _, status) = told(&["-"], &sheet("0-65534", "0-65534"));
+    let sheet = |cells: &str, faces: &str| with(cells, &format!("{faces} 0 -\n"));
+    // a face to each cell, and all faces of one
+    let each: String = (0..65_535).map(|at| format!("{at} {at} -\n")).collect();
+    let (output, _, status) = told(&["-"], &with("0-65534", &each));
     assert_eq!(status, 0);
     assert_eq!(
         output
@@ -215,6 +218,12 @@ fn large_counts() {
             .filter(|line| line.ends_with(" 0000000000000000"))
             .count(),
         2 * 65_535
+    );
+    let (output, _, status) = told(&["-"], &sheet("0-65534", "0-65534"));
+    assert_eq!(status, 3);
+    assert!(
+        output.starts_with("refusal 14 at 0.\nrefusal 14 index 0 by "),
+        "{output}"
     );
     for count in ["0-65535", "0-99999999999", "0-18446744073709551615"] {
         assert_eq!(told(&["-"], &sheet(count, "0")).2, 4);

@@ -12,7 +12,8 @@ enum part {
     CORRECTION, FLUX, OUTFLOW, METRICS, CORRECTED, PARTS
 };
 
-#define ROOM 64
+/* Enough for the geometry of 32 faces. */
+#define ROOM 288
 
 /* A slice is the first numbers of its row, `whole` or `real` by its type. */
 struct call {

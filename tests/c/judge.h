@@ -22,6 +22,8 @@ void judge_counts(void);
 
 void judge_links(void);
 
+void judge_crowded(void);
+
 void judge_payloads(void);
 
 void judge_room(void);

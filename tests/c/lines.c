@@ -84,6 +84,12 @@ static void hold_groups(const struct made *made, const char *text)
         fail("%s: the line has more than the outputs", made->line);
 }
 
+/* Whether a refusal is by shape or mesh, before arithmetic. */
+static int is_by_check(unsigned number)
+{
+    return number < JUVANDEER_DEGENERATE_DISTANCE || number == JUVANDEER_CROWDED_CELL;
+}
+
 static int hold_result(const struct made *made, const char *text)
 {
     unsigned number, index;
@@ -103,7 +109,7 @@ static int hold_result(const struct made *made, const char *text)
         fail("%s: the line does not say what is left: %s", made->line, text);
     if (told)
         hold_groups(made, text);
-    if (told ? number < 7 : !strcmp(text, ", untouched")) {
+    if (told ? is_by_check(number) : !strcmp(text, ", untouched")) {
         hold_untouched(made);
         return UNTOUCHED;
     }

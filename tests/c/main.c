@@ -57,6 +57,7 @@ int main(int count, char **arguments)
     judge_digits();
     judge_counts();
     judge_links();
+    judge_crowded();
     judge_payloads();
     judge_room();
     judge_null();

@@ -4,8 +4,9 @@
 //! flux negated where it is the neighbour. Its outflow is their sum with rounding, its bound
 //! (n − 1) × 2^-53 × the sum of the magnitudes of its n terms. Of an accepted step it is proved that every
 //! outflow is within its cell's bound of the exact sum of the terms, and that all outflows together are within
-//! the sum of the bounds of the exact flux through the faces with one cell. This module works these numbers out
-//! again, without rounding, for a report to show.
+//! the sum of the bounds of the exact flux through the faces with one cell. No cell of such a step has more than
+//! 26 terms, so both hold with 25 for n − 1 too, the bound to quote where n is not told. This module works these
+//! numbers out again, without rounding, for a report to show.
 //!
 //! ```
 //! use juvandeer::balance::Amount;
@@ -23,6 +24,9 @@ use crate::mesh::Mesh;
 use std::error::Error;
 use std::fmt;
 
+/// The largest n − 1: a cell of a step that is accepted has at most 26 terms.
+const LARGEST_MULTIPLIER: u64 = 25;
+
 /// The balance of one cell.
 #[derive(Clone, Debug, PartialEq, Eq)]
 pub struct CellBalance {
@@ -36,6 +40,8 @@ pub struct CellBalance {
     pub difference: Amount,
     /// How far it may be.
     pub bound: Amount,
+    /// The bound with 25 for n − 1, which is no smaller in a cell of at most 26 terms.
+    pub quotable: Amount,
 }
 
 impl CellBalance {
@@ -56,6 +62,8 @@ pub struct TotalBalance {
     pub difference: Amount,
     /// How far they may be: the sum of the cells' bounds.
     pub bound: Amount,
+    /// The sum of the cells' bounds with 25 for n − 1.
+    pub quotable: Amount,
 }
 
 impl TotalBalance {
@@ -135,6 +143,7 @@ impl Terms {
             terms: self.count,
             difference: outflow.minus(&self.exact).magnitude(),
             bound: self.magnitudes.bound(self.count.saturating_sub(1) as u64),
+            quotable: self.magnitudes.bound(LARGEST_MULTIPLIER),
             exact: self.exact,
             outflow,
         }
@@ -204,6 +213,7 @@ fn total(cells: &[CellBalance], boundary: Amount) -> TotalBalance {
     TotalBalance {
         difference: outflows.minus(&boundary).magnitude(),
         bound: sum(|cell| &cell.bound),
+        quotable: sum(|cell| &cell.quotable),
         outflows,
         boundary,
     }

@@ -68,7 +68,7 @@ impl Mesh {
     ///
     /// # Errors
     ///
-    /// 1 to 6; 7 and 10 at a face, 8 at a cell; 1 at index 0 where the equations are over 65,535.
+    /// 1 to 5, 14, 6; 7 and 10 at a face, 8 at a cell; 1 at index 0 where the equations are over 65,535.
     pub fn least_squares_stencil(&self, conditions: &Conditions) -> Result<Stencil, Refusal> {
         self.least_squares_stencil_in(conditions, self.stencil_room())
     }
@@ -136,7 +136,7 @@ impl Mesh {
     ///
     /// # Errors
     ///
-    /// 1 to 3; 7 and 9 at a face.
+    /// 1 to 3, 14; 7 and 9 at a face.
     pub fn pressure_face_coefficients(&self, responses: &CellField) -> Result<FaceField, Refusal> {
         let mut out = FaceField::blank(self);
         ffi::pressure_face_coefficients(
@@ -155,7 +155,7 @@ impl Mesh {
     ///
     /// # Errors
     ///
-    /// 1 to 3, 6; 7 and 9 at a face with two cells, then 9 at another.
+    /// 1 to 3, 14, 6; 7 and 9 at a face with two cells, then 9 at another.
     pub fn pressure_face_coefficients_with_boundary(
         &self,
         conditions: &Conditions,
@@ -182,7 +182,7 @@ impl Mesh {
     ///
     /// # Errors
     ///
-    /// 1 to 3, 5; 7 and 9 of a coefficient, then 9 of a flux, at a face.
+    /// 1 to 3, 5, 14; 7 and 9 of a coefficient, then 9 of a flux, at a face.
     pub fn rhie_chow_predicted_flux(
         &self,
         stencil: &Stencil,
@@ -223,7 +223,7 @@ impl Mesh {
     ///
     /// # Errors
     ///
-    /// 1 to 3, 6; 9 and 10 at a face.
+    /// 1 to 3, 14, 6; 9 and 10 at a face.
     pub fn correct_face_flux_with_boundary(
         &self,
         conditions: &Conditions,
@@ -254,8 +254,8 @@ impl Mesh {
     ///
     /// # Errors
     ///
-    /// As there, and `flux` is then as the engine leaves it: the predicted flux after 1 to 3 and 6, +0.0 at every
-    /// face after 9 and 10.
+    /// As there, and `flux` is then as the engine leaves it: the predicted flux after 1 to 3, 14 and 6, +0.0 at
+    /// every face after 9 and 10.
     pub fn correct_face_flux_in_place(
         &self,
         conditions: &Conditions,
@@ -309,7 +309,7 @@ impl Mesh {
     ///
     /// # Errors
     ///
-    /// 1 to 3.
+    /// 1 to 3, 14.
     pub fn integrated_divergence(&self, flux: &FaceField) -> Result<CellField, Refusal> {
         let mut out = CellField::blank(self);
         self.integrated_divergence_into(flux, &mut out)?;
@@ -343,7 +343,7 @@ impl Mesh {
     ///
     /// # Errors
     ///
-    /// 1 to 3; 12 at a cell; 9 at index 0 where a metric is not finite.
+    /// 1 to 3, 14; 12 at a cell; 9 at index 0 where a metric is not finite.
     pub fn continuity_metrics(&self, flux: &FaceField) -> Result<Continuity, Refusal> {
         let mut outflow = CellField::blank(self);
         let mut metrics = [0.0; 2];

@@ -73,7 +73,8 @@ impl Mesh {
     /// a cell's faces is in the order of `faces`, that of its neighbours in the order of the cells, each once.
     ///
     /// A mesh with no cell, or with more cells or faces than the engine takes, is built: every call with it is
-    /// refused with 1.
+    /// refused with 1. So is one with more than 26 faces to a cell: every call that looks at faces is refused
+    /// with 14.
     ///
     /// # Errors
     ///

@@ -36,32 +36,34 @@ pub enum RefusalKind {
     InvalidMomentumDiagonal,
     /// 12: a cell's volume is not finite or not above 0.
     InvalidCellMeasure,
+    /// 14: a cell has more than 26 faces, or more than 26 records in its chain of faces.
+    CrowdedCell,
     /// A number that these bindings do not know.
     Other(u64),
 }
 
-/// The kinds 1 to 12, in order.
-const KINDS: [RefusalKind; 12] = [
-    RefusalKind::Size,
-    RefusalKind::Length,
-    RefusalKind::MeshMismatch,
-    RefusalKind::BadFace,
-    RefusalKind::BrokenChain,
-    RefusalKind::BadLink,
-    RefusalKind::DegenerateDistance,
-    RefusalKind::SingularLeastSquaresStencil,
-    RefusalKind::InvalidPressureFaceCoefficient,
-    RefusalKind::MissingBoundaryCondition,
-    RefusalKind::InvalidMomentumDiagonal,
-    RefusalKind::InvalidCellMeasure,
+/// The numbers in use and their kinds.
+const KINDS: [(u64, RefusalKind); 13] = [
+    (1, RefusalKind::Size),
+    (2, RefusalKind::Length),
+    (3, RefusalKind::MeshMismatch),
+    (4, RefusalKind::BadFace),
+    (5, RefusalKind::BrokenChain),
+    (6, RefusalKind::BadLink),
+    (7, RefusalKind::DegenerateDistance),
+    (8, RefusalKind::SingularLeastSquaresStencil),
+    (9, RefusalKind::InvalidPressureFaceCoefficient),
+    (10, RefusalKind::MissingBoundaryCondition),
+    (11, RefusalKind::InvalidMomentumDiagonal),
+    (12, RefusalKind::InvalidCellMeasure),
+    (14, RefusalKind::CrowdedCell),
 ];
 
 impl RefusalKind {
     /// The kind that a number stands for.
     pub fn from_number(number: u64) -> Self {
-        let place = usize::try_from(number).ok().and_then(|n| n.checked_sub(1));
-        let kind = place.and_then(|place| KINDS.get(place));
-        kind.copied().unwrap_or(Self::Other(number))
+        let row = KINDS.iter().find(|&&(known, _)| known == number);
+        row.map_or(Self::Other(number), |&(_, kind)| kind)
     }
 
     /// The number of the kind.
@@ -69,8 +71,8 @@ impl RefusalKind {
         match self {
             Self::Other(number) => number,
             kind => {
-                let place = KINDS.iter().position(|&other| other == kind);
-                place.map_or(0, |place| place as u64 + 1)
+                let row = KINDS.iter().find(|&&(_, known)| known == kind);
+                row.map_or(0, |&(number, _)| number)
             }
         }
     }
@@ -81,7 +83,7 @@ impl RefusalKind {
 pub struct Refusal {
     /// Why.
     pub kind: RefusalKind,
-    /// The face or cell, as the kind says, for 4 to 6 the lowest such one; 0 where none is named.
+    /// The face or cell, as the kind says, for 4, 5, 6 and 14 the lowest such one; 0 where none is named.
     pub index: usize,
 }
 
@@ -128,6 +130,7 @@ impl Refusal {
             RefusalKind::MissingBoundaryCondition => format!("face {index} has one cell and neither a link nor a condition"),
             RefusalKind::InvalidMomentumDiagonal => format!("cell {index} has a momentum diagonal or response that is not finite or not above 0, or a velocity that is not finite"),
             RefusalKind::InvalidCellMeasure => format!("cell {index} has a volume that is not finite or not above 0"),
+            RefusalKind::CrowdedCell => format!("cell {index} has more than 26 faces"),
             RefusalKind::Other(number) => format!("{number} is a number that these bindings do not know"),
         }
     }

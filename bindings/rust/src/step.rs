@@ -62,7 +62,7 @@ impl Mesh {
     ///
     /// # Errors
     ///
-    /// The first refusal of the parts in that order, after the checks 1 to 6.
+    /// The first refusal of the parts in that order, after those of shape and mesh: 1 to 5, 14, 6.
     pub fn step(&self, input: StepInput<'_>) -> Result<Step, Refusal> {
         self.step_in(input, self.stencil_room())
     }

@@ -112,11 +112,29 @@ fn a_sum_that_rounds() {
     assert_eq!(cell.difference.whole(), &two_to(1022));
     assert_eq!(cell.bound.places(), 1074 + 53);
     assert_eq!(cell.bound.whole(), &(&two_to(1075) + &two_to(1023)));
+    let magnitudes = &two_to(1074) + &two_to(1022);
+    assert_eq!(cell.quotable.places(), 1074 + 53);
+    assert_eq!(cell.quotable.whole(), &magnitudes.times(25));
+    assert_eq!(balance.total.quotable, cell.quotable);
     assert!(balance.holds());
     assert_eq!(balance.total.difference, cell.difference);
     assert!(balance
         .to_string()
         .contains("0 3 1.00000e0 1.00000e0 2.22045e-16 2.22045e-16"));
+}
+
+/// 26 terms are the most: their bound is the one with 25.
+#[test]
+fn the_largest_multiplier_is_25() {
+    let (mesh, flux, outflow) = one_cell(&[0.1; 26]);
+    let balance = Balance::of(&mesh, &flux, &outflow).unwrap();
+    assert!(balance.holds());
+    assert_eq!(balance.cells[0].terms, 26);
+    assert_eq!(balance.cells[0].quotable, balance.cells[0].bound);
+    assert_eq!(balance.total.quotable, balance.total.bound);
+    let (mesh, flux, outflow) = one_cell(&[0.1; 25]);
+    let balance = Balance::of(&mesh, &flux, &outflow).unwrap();
+    assert!(balance.cells[0].quotable > balance.cells[0].bound);
 }
 
 #[test]

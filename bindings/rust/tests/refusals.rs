@@ -6,7 +6,7 @@
 
 mod common;
 
-use common::base;
+use common::{base, Made};
 use juvandeer::{
     BuildError, Cell, CellField, Condition, Conditions, Dimension, FaceField, Mesh, Refusal,
     RefusalKind, Stencil,
@@ -208,6 +208,104 @@ fn lowest_bad_link_6() {
     assert_eq!(lowest(&[(3, 4), (1, 4), (2, 6), (5, 5)]), (6, 3));
 }
 
+/// What the calls answer on the base with so many faces more of cell 1, which has four: first those that look at
+/// faces, then those that do not. The faces have a zero gradient and fields of 0.
+fn with_faces(more: usize, spoil: fn(&mut Made)) -> ([Answer; 9], [Answer; 3]) {
+    let mut crowd = base();
+    crowd.faces.extend(vec![crowd.faces[5]; more]);
+    crowd.conditions.extend(vec![Condition::ZeroGradient; more]);
+    for field in [
+        &mut crowd.walls,
+        &mut crowd.predicted,
+        &mut crowd.coefficients,
+        &mut crowd.flux,
+    ] {
+        field.extend(vec![0.0; more]);
+    }
+    let mut made = crowd.made();
+    spoil(&mut made);
+    let (mesh, c) = (&made.mesh, &made.conditions);
+    let (p, k, x) = (&made.predicted, &made.coefficients, &made.correction);
+    let (s, v, r, w) = (&made.stencil, &made.velocity, &made.responses, &made.walls);
+    let mut over = p.clone();
+    let in_place = answer(mesh.correct_face_flux_in_place(c, k, x, &mut over));
+    if in_place != Ok(()) {
+        assert_eq!(over.values(), p.values(), "the predicted flux is left");
+    }
+    let of_faces = [
+        answer(mesh.least_squares_stencil(c)),
+        answer(mesh.pressure_face_coefficients(r)),
+        answer(mesh.pressure_face_coefficients_with_boundary(c, r)),
+        answer(mesh.rhie_chow_predicted_flux(s, v, &made.pressure, r, w)),
+        answer(mesh.correct_face_flux_with_boundary(c, p, k, x)),
+        in_place,
+        answer(mesh.integrated_divergence(&made.flux)),
+        answer(mesh.continuity_metrics(&made.flux)),
+        answer(mesh.step(made.step_input())),
+    ];
+    let of_others = [
+        answer(mesh.momentum_inverse_diagonal(&made.diagonal)),
+        answer(mesh.least_squares_gradient(s, &made.pressure)),
+        answer(mesh.correct_cell_velocity_from_gradient(v, r, &made.gradient)),
+    ];
+    (of_faces, of_others)
+}
+
+/// Accepted, or number and index.
+type Answer = Result<(), (u64, usize)>;
+
+fn answer<T>(answer: Result<T, Refusal>) -> Answer {
+    match answer {
+        Ok(_) => Ok(()),
+        Err(refusal) => Err((refusal.kind.number(), refusal.index)),
+    }
+}
+
+#[test]
+fn crowded_cell_14() {
+    assert_eq!(with_faces(22, |_| ()), ([Ok(()); 9], [Ok(()); 3]));
+    assert_eq!(with_faces(23, |_| ()), ([Err((14, 1)); 9], [Ok(()); 3]));
+}
+
+/// 14 comes before 6 and after 5.
+#[test]
+fn crowded_cell_14_in_its_place() {
+    let bad_link = |made: &mut Made| {
+        made.conditions.link(4, 4, [1.0, 0.0, 0.0]).unwrap();
+    };
+    let (of_faces, _) = with_faces(22, bad_link);
+    let linked = [0, 2, 4, 5, 8].map(|call| of_faces[call]);
+    assert_eq!(linked, [Err((6, 4)); 5]);
+    let (of_faces, _) = with_faces(23, bad_link);
+    assert_eq!(of_faces, [Err((14, 1)); 9]);
+    let broken_chain = |made: &mut Made| {
+        let kept = &made.stencil;
+        made.stencil = Stencil::from_slices(
+            &made.mesh,
+            vec![99, 4],
+            kept.equations().to_vec(),
+            kept.weights().to_vec(),
+            kept.inverses().to_vec(),
+        );
+    };
+    let (of_faces, of_others) = with_faces(23, broken_chain);
+    assert_eq!(of_faces[3], Err((5, 0)));
+    assert_eq!(of_others[1], Err((5, 0)));
+}
+
+/// Faces that are shared count in both cells, and the lowest cell is named.
+#[test]
+fn lowest_crowded_cell_14() {
+    let outflow = |more: usize| {
+        let mut crowd = base();
+        crowd.faces.extend(vec![crowd.faces[0]; more]);
+        let mesh = crowd.mesh();
+        answer(mesh.integrated_divergence(&FaceField::uniform(&mesh, 1.0)))
+    };
+    assert_eq!(outflow(22), Ok(()));
+    assert_eq!(outflow(23), Err((14, 0)));
+}
+
 #[test]
 fn arithmetic_7_to_12() {
     let mut near = base();
@@ -281,11 +379,12 @@ fn numbers_kinds_and_reasons_fit() {
         assert_eq!(RefusalKind::from_number(number).number(), number);
     }
     assert_eq!(RefusalKind::from_number(13), RefusalKind::Other(13));
+    assert_eq!(RefusalKind::from_number(14), RefusalKind::CrowdedCell);
     let at = |number| Refusal::new(number, 17).reason();
     for number in [4, 6, 7, 9, 10] {
         assert!(at(number).starts_with("face 17 "));
     }
-    for number in [5, 8, 11, 12] {
+    for number in [5, 8, 11, 12, 14] {
         assert!(at(number).starts_with("cell 17 "));
     }
     for number in [1, 2, 3] {
@@ -316,5 +415,5 @@ fn sentences_are_the_stored_ones() {
             told += 1;
         }
     }
-    assert_eq!(told, 12 * 4);
+    assert_eq!(told, 13 * 4);
 }

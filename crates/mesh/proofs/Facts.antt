@@ -19,6 +19,7 @@ use Rattle.mesh.specs.Answers.{Outcome, refused, or_else, first_of, pass, at, sh
 use Rattle.mesh.specs.Checks.{size_tests, sizes_ok, bad_face, lowest_bad_face, unknown_code, lowest_unknown_code, bad_link, lowest_bad_link}
 use Rattle.chain.specs.Chains.{ends, head_at, cell_count, broken_cell, lowest_broken}
 use Rattle.mesh.specs.Records.{owner_at, neighbour_at, peer_at}
+use Rattle.degree.specs.Degree.{crowded, lowest_crowded, long, lowest_long, chain_length, most_faces, FewNamings}
 use Rattle.mesh.specs.Facts.{Small, FacesIn, CodesIn, ChainsIn, LinkOf, LinksIn}
 use Rattle.mesh.specs.declared.Counts.{Counts}
 use Rattle.chain.specs.declared.Form.{Form}
@@ -79,6 +80,14 @@ unfolding broken_cell
 chains_in limit records form heads h c l =
     let e = none_below (broken_cell limit records form heads) (cell_count form heads) c h l in
     record { sound = not-false (ends records (length records / 2) limit (length records / 2) (head_at form heads c)) e }
+
+pub few_namings : (cells : ℕ) (adjacency : List ℕ) → lowest_crowded cells adjacency ≡ None → FewNamings cells adjacency
+unfolding crowded
+few_namings cells adjacency h c l = ltb-false _ _ (none_below (crowded adjacency) cells c h l)
+
+pub short_chains : (heads facing : List ℕ) → lowest_long heads facing ≡ None → (c : ℕ) → c < length heads / 2 → chain_length facing heads c ≤ most_faces
+unfolding long
+short_chains heads facing h c l = ltb-false _ _ (none_below (long facing heads) (length heads / 2) c h l)
 
 -- the tests of a link, by the peer's
 link_tests : (peer faces : ℕ) (z m r : Bool) → z ≡ eqb peer 0 → m ≡ ltb faces peer → (peer ≡ 0 → ⊥) → cond z false (cond m true r) ≡ false → (peer ≤ faces) × (r ≡ false)

@@ -2,9 +2,9 @@
 // clearing of outputs. Records stand in flat slices; `inner` reads them by value.
 #![tactic(auto)]
 
-ghost use Rattle.std.specs.Prelude.{◌≡◌, ◌*◌, eqb, length, replicate};
+ghost use Rattle.std.specs.Prelude.{◌≡◌, ◌*◌, true, eqb, length, replicate};
 ghost use Rattle.binary64.specs.Numbers.{zero64};
-ghost use Rattle.mesh.specs.Answers.{pass, at, shape};
+ghost use Rattle.mesh.specs.Answers.{pass, at, shape, accepted};
 ghost use Rattle.mesh.specs.Records.{condition_of};
 ghost use Rattle.mesh.specs.Checks.{sizes_ok, lowest_unknown_code};
 
@@ -121,9 +121,10 @@ pub fn at(reason: Reason, found: Option<usize>) -> Answer
 }
 
 // The checks of shape: of the counts, of the lengths, of the mesh numbers.
-#[tactic(auto, using(crate::proofs::Facts::in_order), unfolding(crate::specs::Answers::first_of, crate::specs::Answers::shape))]
+#[tactic(auto, using(crate::proofs::Facts::in_order, crate::proofs::Facts::passed), unfolding(crate::specs::Answers::first_of, crate::specs::Answers::shape))]
 pub fn shape(counts: bool, lengths: bool, numbers: bool) -> Answer
-    ensures { result ≡ shape counts lengths numbers }
+    ensures checked { result ≡ shape counts lengths numbers }
+    ensures counted { result ≡ accepted → counts ≡ true }
 {
     pass(Reason::BadSize, counts)?;
     pass(Reason::WrongLength, lengths)?;

@@ -1,13 +1,14 @@
 -- The outflow of each cell: a face's flux is added to its owner's and taken from its neighbour's, face by face from +0.0;
 -- and the terms of a cell. Definitions only.
-use Rattle.refusal.specs.declared.Reason.TheVariants.{BadSize, WrongLength, OtherMesh, BadFace}
+use Rattle.refusal.specs.declared.Reason.TheVariants.{BadSize, WrongLength, OtherMesh}
 use Rattle.std.specs.Prelude.{◌≡◌, List, [], ◌∷◌, ◌++◌, Bool, ◌&&◌, cond, ℕ, zero, suc, ◌*◌, ◌-◌, ◌<◌, eqb, length, get_or, set, replicate, Float}
 use Rattle.std.specs.Float.{nan, binary64}
 use Rattle.std.specs.Float.Ieee.{neg}
 use Rattle.binary64.specs.Numbers.{zero64, ◌⊕◌, ◌⊖◌}
 use Rattle.binary64.specs.Units.{total}
 use Rattle.mesh.specs.Answers.{pass, at, first_of, Answer, accepted}
-use Rattle.mesh.specs.Checks.{sizes_ok, lowest_bad_face}
+use Rattle.mesh.specs.Checks.{sizes_ok}
+use Rattle.mesh.specs.Mesh.{sides}
 use Rattle.mesh.specs.Facts.{CellsOf}
 use Rattle.mesh.specs.Pass.{if_refused}
 use Rattle.mesh.specs.Records.{owner_at, neighbour_at}
@@ -78,7 +79,7 @@ outflow_checks n adjacency number flux outs =
     (pass BadSize (sizes_ok n)
     ∷ pass WrongLength (eqb (length adjacency) (2 * n.faces) && eqb (length flux) n.faces && eqb outs n.cells)
     ∷ pass OtherMesh (eqb number n.mesh)
-    ∷ at BadFace (lowest_bad_face n.cells adjacency)
+    ∷ sides n.cells adjacency
     ∷ [])
 
 -- the answer, and what the output holds after the call: untouched where a check refuses

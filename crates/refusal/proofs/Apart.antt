@@ -1,13 +1,21 @@
 -- A reason is read back from its number. Assumes nothing.
 use mathlib.Core.Path.{◌≡◌, refl, sym, ap, ◌∙◌}
-use Prim.Native.Nat.{◌-◌}
-use lib.ListN.{get_or}
+use mathlib.Core.List.{List, [], ◌∷◌}
+use mathlib.Core.Bool.{cond}
+use Prim.Native.Nat.{ℕ}
+use lib.Dec.{eqb}
 use Rattle.refusal.specs.declared.Reason.{Reason}
 use Rattle.refusal.specs.declared.Reason.TheVariants.{BadSize, WrongLength, OtherMesh, BadFace, BrokenChain, BadLink}
-use Rattle.refusal.specs.declared.Reason.TheVariants.{TooNear, SingularStencil, BadCoefficient, NoCondition, BadDiagonal, BadVolume}
+use Rattle.refusal.specs.declared.Reason.TheVariants.{TooNear, SingularStencil, BadCoefficient, NoCondition, BadDiagonal, BadVolume, CrowdedCell}
 use Rattle.refusal.specs.Numbers.{number_of, reasons, NumbersDiffer}
 
-back : (reason : Reason) → get_or reasons (number_of reason - 1) BadSize ≡ reason
+-- the first of the reasons that has the number
+with_number : ℕ → List Reason → Reason
+with_number n [] = BadSize
+with_number n (r ∷ rs) = cond (eqb n (number_of r)) r (with_number n rs)
+
+back : (reason : Reason) → with_number (number_of reason) reasons ≡ reason
+unfolding with_number
 back BadSize = refl
 back WrongLength = refl
 back OtherMesh = refl
@@ -20,6 +28,7 @@ back BadCoefficient = refl
 back NoCondition = refl
 back BadDiagonal = refl
 back BadVolume = refl
+back CrowdedCell = refl
 
 pub numbers_differ : NumbersDiffer
-numbers_differ a b e = sym (back a) ∙ ap (λ n. get_or reasons (n - 1) BadSize) e ∙ back b
+numbers_differ a b e = sym (back a) ∙ ap (λ n. with_number n reasons) e ∙ back b

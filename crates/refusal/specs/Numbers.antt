@@ -2,7 +2,7 @@
 use Rattle.std.specs.Prelude.{◌≡◌, ℕ, List, [], ◌∷◌, Result, Ok, Err}
 use Rattle.refusal.specs.declared.Reason.{Reason}
 use Rattle.refusal.specs.declared.Reason.TheVariants.{BadSize, WrongLength, OtherMesh, BadFace, BrokenChain, BadLink}
-use Rattle.refusal.specs.declared.Reason.TheVariants.{TooNear, SingularStencil, BadCoefficient, NoCondition, BadDiagonal, BadVolume}
+use Rattle.refusal.specs.declared.Reason.TheVariants.{TooNear, SingularStencil, BadCoefficient, NoCondition, BadDiagonal, BadVolume, CrowdedCell}
 use Rattle.refusal.specs.declared.Refusal.{Refusal}
 use Rattle.refusal.specs.declared.UnknownNumber.{UnknownNumber}
 
@@ -19,6 +19,7 @@ number_of BadCoefficient = 9
 number_of NoCondition = 10
 number_of BadDiagonal = 11
 number_of BadVolume = 12
+number_of CrowdedCell = 14
 
 -- in the order of their numbers
 abbrev pub reasons : List Reason
@@ -35,6 +36,7 @@ reasons =
     ∷ NoCondition
     ∷ BadDiagonal
     ∷ BadVolume
+    ∷ CrowdedCell
     ∷ []
 
 abbrev pub refusal : Reason → ℕ → Refusal

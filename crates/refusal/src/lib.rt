@@ -22,6 +22,7 @@ pub enum Reason {
     NoCondition,
     BadDiagonal,
     BadVolume,
+    CrowdedCell,
 }
 
 // The reason, and the face or the cell; 0 where it names none, as the C interface hands it out.
@@ -64,6 +65,7 @@ impl From<Reason> for u64 {
             Reason::NoCondition => 10,
             Reason::BadDiagonal => 11,
             Reason::BadVolume => 12,
+            Reason::CrowdedCell => 14,
         }
     }
 }
@@ -87,6 +89,7 @@ impl TryFrom<u64> for Reason {
             10 => Ok(Reason::NoCondition),
             11 => Ok(Reason::BadDiagonal),
             12 => Ok(Reason::BadVolume),
+            14 => Ok(Reason::CrowdedCell),
             _ => Err(UnknownNumber(number)),
         }
     }

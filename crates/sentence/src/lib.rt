@@ -64,5 +64,6 @@ fn opening(reason: Reason) -> &'static [u8]
         Reason::NoCondition => b"no condition at ",
         Reason::BadDiagonal => b"bad diagonal at ",
         Reason::BadVolume => b"bad volume at ",
+        Reason::CrowdedCell => b"refusal 14 at ",
     }
 }

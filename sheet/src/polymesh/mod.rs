@@ -10,6 +10,7 @@ mod write;
 
 use crate::closed::unclosed;
 use crate::mistake::Mistake;
+use crate::MOST_CELL_FACES;
 use boundary::{check_cover, patches, Patch};
 use engine::{BuildError, Dimension, Mesh, Vec3};
 use folder::Folder;
@@ -74,7 +75,7 @@ fn read(folder: &Folder<'_>) -> Result<PolyMesh, String> {
     })
 }
 
-/// The mesh, with its geometry worked out and every cell closed.
+/// The mesh, with its geometry worked out, every cell closed and none with too many faces.
 fn build(folder: &Folder<'_>, lists: &Lists) -> Result<Mesh, String> {
     let mesh = Mesh::from_points(
         Dimension::Three,
@@ -84,14 +85,31 @@ fn build(folder: &Folder<'_>, lists: &Lists) -> Result<Mesh, String> {
         &values(&lists.neighbours),
     );
     let mesh = mesh.map_err(|error| unbuilt(folder, lists, &error))?;
-    match unclosed(&mesh) {
+    if let Some(found) = unclosed(&mesh) {
+        let face = found.turned.and_then(|face| lists.faces.get(face));
+        let line = face.map_or(0, |(line, _)| *line);
+        return Err(folder.told("faces", &Mistake::new(line, found.to_string())));
+    }
+    match crowded(&mesh) {
         None => Ok(mesh),
-        Some(found) => {
-            let face = found.turned.and_then(|face| lists.faces.get(face));
-            let line = face.map_or(0, |(line, _)| *line);
-            Err(folder.told("faces", &Mistake::new(line, found.to_string())))
+        Some((cell, faces)) => Err(format!(
+            "{}: cell {cell} has {faces} faces, and at most {MOST_CELL_FACES} are taken: split it, or merge its faces",
+            folder.name()
+        )),
+    }
+}
+
+/// The lowest cell with more faces than the engine takes, and how many it has.
+fn crowded(mesh: &Mesh) -> Option<(usize, usize)> {
+    let mut faces = vec![0; mesh.cell_count()];
+    for pair in mesh.adjacency().chunks_exact(2) {
+        faces[pair[0]] += 1;
+        if let Some(neighbour) = pair[1].checked_sub(1) {
+            faces[neighbour] += 1;
         }
     }
+    let cell = faces.iter().position(|&count| count > MOST_CELL_FACES)?;
+    Some((cell, faces[cell]))
 }
 
 fn values<T: Clone>(list: &List<T>) -> Vec<T> {

@@ -1,7 +1,7 @@
 -- The root mean square of the outflows, and the largest divergence. Definitions only.
 use Rattle.refusal.specs.Numbers.{refusal}
 use Rattle.refusal.specs.declared.Reason.{Reason}
-use Rattle.refusal.specs.declared.Reason.TheVariants.{BadSize, WrongLength, OtherMesh, BadFace, BadCoefficient}
+use Rattle.refusal.specs.declared.Reason.TheVariants.{BadSize, WrongLength, OtherMesh, BadCoefficient}
 use Rattle.refusal.specs.declared.Refusal.{Refusal}
 use Rattle.std.specs.Prelude.{◌≡◌, List, [], ◌∷◌, Bool, cond, ℕ, zero, suc, ◌*◌, eqb, pos, length, get_or, replicate, Float, Result, Ok, Err}
 use Rattle.std.specs.List.{fold}
@@ -9,8 +9,9 @@ use Rattle.std.specs.Float.{nan, binary64}
 use Rattle.std.specs.Float.Ieee.{of_int}
 use Rattle.binary64.specs.Numbers.{zero64, is_finite, larger, ◌⊕◌, ◌⊗◌, ◌⊘◌}
 use Rattle.binary64.specs.Root.{root}
-use Rattle.mesh.specs.Answers.{pass, at, first_of, or_else, Answer, Outcome, accepted}
-use Rattle.mesh.specs.Checks.{sizes_ok, lowest_bad_face}
+use Rattle.mesh.specs.Answers.{pass, first_of, or_else, Answer, Outcome, accepted}
+use Rattle.mesh.specs.Checks.{sizes_ok}
+use Rattle.mesh.specs.Mesh.{sides}
 use Rattle.mesh.specs.Pass.{first_refusal, value_of, handed_out, if_refused}
 use Rattle.mesh.specs.Records.{volume_at}
 use Rattle.chain.specs.Search.{every_of}
@@ -74,14 +75,14 @@ metrics_sizes n adjacency places flux outs two =
     ∷ eqb two 2
     ∷ []
 
--- BadSize, WrongLength, OtherMesh and BadFace, in this order
+-- those of shape, and those of the adjacency
 unfoldable pub metrics_checks : Counts → List ℕ → List Float → Field → ℕ → ℕ → Answer
 metrics_checks n adjacency places flux outs two =
     first_of
     (pass BadSize (sizes_ok n)
     ∷ pass WrongLength (every_of (metrics_sizes n adjacency places flux outs two))
     ∷ pass OtherMesh (eqb flux.number n.mesh)
-    ∷ at BadFace (lowest_bad_face n.cells adjacency)
+    ∷ sides n.cells adjacency
     ∷ [])
 
 -- the answer, and what the two outputs hold after the call: untouched where a check refuses, +0.0 where arithmetic does

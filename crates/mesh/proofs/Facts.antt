@@ -1,7 +1,7 @@
 -- What the checks establish once they pass. Assumes nothing.
 use Rattle.refusal.specs.declared.Reason.TheVariants.{BadSize, WrongLength, OtherMesh}
 use Rattle.std.specs.Prelude.{Option, None, Some, Ok, Err}
-use mathlib.Core.Path.{◌≡◌, refl, sym, ap}
+use mathlib.Core.Path.{◌≡◌, refl, sym}
 use mathlib.Core.Logic.{inl, inr}
 use mathlib.Core.List.{List, [], ◌∷◌}
 use mathlib.Core.Bool.{Bool, true, false, not, cond}
@@ -143,14 +143,6 @@ shape_first false b c x = refl
 shape_first true false c x = refl
 shape_first true true false x = refl
 shape_first true true true x = or_accepted x
-
--- and two after them
-pub shape_both : (a b c : Bool) (x y : Answer) → first_of (pass BadSize a ∷ pass WrongLength b ∷ pass OtherMesh c ∷ x ∷ y ∷ []) ≡ or_else (shape a b c) (or_else x y)
-unfolding shape first_of or_else pass
-shape_both false b c x y = refl
-shape_both true false c x y = refl
-shape_both true true false x y = refl
-shape_both true true true x y = ap (or_else x) (or_accepted y)
 
 -- the first two of them
 pub shape_two : (a b : Bool) → first_of (pass BadSize a ∷ pass WrongLength b ∷ []) ≡ shape a b true

@@ -206,13 +206,14 @@ impl<'a> Mesh<'a> {
     }
 
     // Every check with conditions and links, in the order of docs/REFUSALS.md.
-    #[tactic(auto, using(crate::proofs::Facts::in_order, crate::proofs::Facts::shape_first, crate::proofs::Facts::small), unfolding(crate::specs::Mesh::checks))]
+    #[tactic(auto, using(crate::proofs::Facts::in_order, crate::proofs::Facts::shape_first), unfolding(crate::specs::Mesh::checks))]
     pub fn check(&self, conditions: &Conditions<'_>) -> Answer
         ensures { result ≡ checks (mesh_of self.now) (conditions_of conditions.now) }
     {
         let sized = self.is_sized() & conditions.is_sized(self.counts.faces);
         let same = conditions.number == self.counts.mesh;
         shape(sizes_ok(self.counts), sized, same)?;
+        #[tactic(auto, using(crate::proofs::Facts::small))]
         self.check_topology(conditions.codes)
     }
 }

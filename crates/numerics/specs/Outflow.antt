@@ -6,7 +6,7 @@ use Rattle.std.specs.Float.{nan, binary64}
 use Rattle.std.specs.Float.Ieee.{neg}
 use Rattle.binary64.specs.Numbers.{zero64, ◌⊕◌, ◌⊖◌}
 use Rattle.binary64.specs.Units.{total}
-use Rattle.mesh.specs.Answers.{pass, at, first_of, Answer, accepted}
+use Rattle.mesh.specs.Answers.{pass, first_of, Answer, accepted}
 use Rattle.mesh.specs.Checks.{sizes_ok}
 use Rattle.mesh.specs.Mesh.{sides}
 use Rattle.mesh.specs.Facts.{CellsOf}
@@ -72,7 +72,7 @@ SumsItsTerms cells adjacency flux outflow =
 
 -- ---- the entry
 
--- the checks 1, 2, 3 and 4 of docs/REFUSALS.md
+-- the checks of shape, and those of the adjacency
 unfoldable pub outflow_checks : Counts → List ℕ → ℕ → List Float → ℕ → Answer
 outflow_checks n adjacency number flux outs =
     first_of

@@ -64,7 +64,7 @@ pub fn least_squares_gradient(
     Ok(())
 }
 
-#[tactic(auto, using(mesh::proofs::Facts::in_order, mesh::proofs::Facts::shape_first, mesh::proofs::Facts::small), unfolding(crate::specs::Outflow::outflow_checks))]
+#[tactic(auto, using(mesh::proofs::Facts::in_order, mesh::proofs::Facts::shape_first), unfolding(crate::specs::Outflow::outflow_checks))]
 fn check_flux(faces: &Faces<'_>, flux: &Field<'_>, outs: usize) -> Answer
     ensures checked { let m = faces.now in
         result ≡ outflow_checks m.counts m.adjacency.now flux.now.number flux.now.values.now outs }
@@ -74,6 +74,7 @@ fn check_flux(faces: &Faces<'_>, flux: &Field<'_>, outs: usize) -> Answer
         & (flux.values.len() == counts.faces)
         & (outs == counts.cells);
     mesh::shape(mesh::sizes_ok(counts), sized, flux.number == counts.mesh)?;
+    #[tactic(auto, using(mesh::proofs::Facts::small))]
     faces.check_sides()
 }
 

@@ -53,7 +53,7 @@ Begun m responses l = (coefficient_answer m responses (length l) ≡ accepted) �
 
 -- ---- the entry
 
--- 1 to 4, and 6, of what it is lent; `outs` is the length of the output
+-- those of shape, and those of the adjacency with links; `outs` is the length of the output
 unfoldable pub boundary_checks : Counts → Grid → Conditions → Field → ℕ → Answer
 boundary_checks n m k responses outs =
     first_of

@@ -1,18 +1,17 @@
 -- The predicted flux of every face, from the gradient of the pressure. Definitions only.
-use Rattle.refusal.specs.declared.Reason.TheVariants.{BadSize, WrongLength, OtherMesh, BadFace, BrokenChain}
+use Rattle.refusal.specs.declared.Reason.TheVariants.{BadSize, WrongLength, OtherMesh}
 use Rattle.std.specs.Prelude.{◌≡◌, List, [], ◌∷◌, Bool, ◌&&◌, cond, ℕ, ◌*◌, eqb, leb, length, get_or, Float, Ok}
 use Rattle.std.specs.Float.{nan}
-use Rattle.mesh.specs.Answers.{pass, at, first_of, or_else, Answer, Outcome}
-use Rattle.chain.specs.Chains.{lowest_broken}
-use Rattle.mesh.specs.Checks.{largest_count, sizes_ok, lowest_bad_face}
+use Rattle.mesh.specs.Answers.{pass, first_of, or_else, Answer, Outcome}
+use Rattle.mesh.specs.Checks.{largest_count, sizes_ok}
+use Rattle.mesh.specs.Mesh.{with_equations}
 use Rattle.mesh.specs.Records.{neighbour_at}
 use Rattle.mesh.specs.Pass.{value_of, values_of, handed_out, if_refused}
 use Rattle.vector.specs.Vector.{vector_at}
 use Rattle.chain.specs.Search.{every_of}
 use Rattle.mesh.specs.Lent.{Slice}
 use Rattle.mesh.specs.declared.Counts.{Counts}
-use Rattle.chain.specs.declared.Form.TheVariants.{Single}
-use Rattle.numerics.specs.Slices.{Slices, lengths_of, stencil_sized, from_cell}
+use Rattle.numerics.specs.Slices.{Slices, lengths_of, stencil_sized}
 use Rattle.numerics.specs.Gradient.{gradients}
 use Rattle.coupling.specs.Face.{distances, side, predicted_flux}
 use Rattle.coupling.specs.declared.Side.{Side}
@@ -103,15 +102,14 @@ flow_numbers n stencil l =
     ∷ eqb l.walls.number n.mesh
     ∷ []
 
--- 1 to 5 of what it is lent; `stencil` is the mesh number of the stencil
+-- those of shape, and those of the adjacency with a stencil's equations; `stencil` is the mesh number of the stencil
 unfoldable pub prediction_checks : Counts → Grid → ℕ → ℕ → Slices → FlowFields → ℕ → ℕ → Answer
 prediction_checks n m stencil records s l slopes outs =
     first_of
     (pass BadSize (sizes_ok n && leb records largest_count)
     ∷ pass WrongLength (grid_sized n m && stencil_sized n.cells records (lengths_of s) && flow_sized n (sizes_of l) slopes outs)
     ∷ pass OtherMesh (every_of (flow_numbers n stencil l))
-    ∷ at BadFace (lowest_bad_face n.cells m.adjacency)
-    ∷ at BrokenChain (lowest_broken (from_cell n.cells) s.equations Single s.starts)
+    ∷ with_equations n.cells m.adjacency s.equations s.starts
     ∷ [])
 
 -- the answer, and what the two outputs hold after the call: untouched where a check refuses, +0.0 where arithmetic does

@@ -17,6 +17,7 @@ use Rattle.stencil.specs.Lent.{lent_of}
 use Rattle.numerics.specs.Outflow.{faces_of}
 use Rattle.stencil.specs.Stencil.{stencil_answer}
 use Rattle.balance.proofs.Closes.{balances}
+use Rattle.balance.proofs.Few.{quoted}
 use Rattle.balance.specs.Balance.{Balanced}
 use Rattle.predictor.specs.Boundary.{boundary_answer}
 use Rattle.corrector.specs.Correction.{correction_answer}
@@ -73,11 +74,15 @@ module _ (d : Inputs) (ready : Lendable d) where
         sized : ℕ → Boundary
         sized n = record { faces = n; neighbour = (walls_of d).neighbour; peer = (walls_of d).peer; code = (walls_of d).code; given = (walls_of d).given; coefficient = (walls_of d).coefficient }
 
+    balanced : Balanced (faces_of d.mesh.adjacency (fluxes_of d)) faces (outflows_of d)
+    balanced = subst (λ (n : ℕ). Balanced (faces_of d.mesh.adjacency (fluxes_of d)) n (outflows_of d)) (fluxes_size d ready) (balances cells d.mesh.adjacency (fluxes_of d) (flows d ready) fit finite_outflows)
+
     pub demanded : DemandThree d (fluxes_of d) (outflows_of d)
     demanded = record {
       fluxes = fluxes_size d ready;
       outflows = outflows_size d ready;
       finite_outflows = finite_outflows;
-      balanced = subst (λ (n : ℕ). Balanced (faces_of d.mesh.adjacency (fluxes_of d)) n (outflows_of d)) (fluxes_size d ready) (balances cells d.mesh.adjacency (fluxes_of d) (flows d ready) fit finite_outflows);
+      balanced = balanced;
+      quotable = quoted cells d.mesh.adjacency (fluxes_of d) (outflows_of d) faces (flows d ready) ready.good.sound.few (fluxes_size d ready) (outflows_size d ready) balanced;
       kept = kept;
     }

@@ -3,6 +3,7 @@
 -- The fluxes are the corrected ones that it hands out, and the outflows are summed from them with rounding. Exact sums count in units of 2 ^ -1074.
 -- 1. There are as many fluxes as faces and as many outflows as cells, and each is finite. Each cell's outflow differs from the exact sum of its terms, times 2 ^ 53, by at most the number of its terms
 --    less one times the sum of their magnitudes; and all outflows together differ from the exact flux through the faces with one cell by at most the sum of these bounds.
+--    No cell has more than 26 terms, so that in each of these bounds 25 may be put for the multiplier.
 -- 2. An unlinked one-cell zero-gradient face keeps the wall flux as lent.
 -- 3. Two linked faces whose wall fluxes are opposite and whose coefficients are equal leave with opposite fluxes, a zero's sign aside both times.
 use Rattle.mesh.specs.Answers.{Answer, accepted}
@@ -12,6 +13,7 @@ use Rattle.std.specs.Float.Ieee.Scale.{finite}
 use Rattle.mesh.specs.Records.{neighbour_at, code_at, peer_at}
 use Rattle.numerics.specs.Outflow.{faces_of}
 use Rattle.balance.specs.Balance.{Balanced}
+use Rattle.balance.specs.Quotable.{Quotable}
 use Rattle.corrector.specs.Promise.{Boundary, Promise}
 use Rattle.scheme.specs.Step.{Inputs, coefficients_of}
 
@@ -31,6 +33,7 @@ pub record DemandThree (d : Inputs) (corrected outflow : List Float) : Type 0 wh
   pub outflows : length outflow ≡ d.mesh.counts.cells
   pub finite_outflows : (c : ℕ) → c < length outflow → T (finite (get_or outflow c nan))
   pub balanced : Balanced (faces_of d.mesh.adjacency corrected) d.mesh.counts.faces outflow
+  pub quotable : Quotable (faces_of d.mesh.adjacency corrected) d.mesh.counts.faces outflow
   pub kept : Promise (walls_of d) corrected
 
 abbrev pub Demanded : Answer → Inputs → List Float → List Float → Type 0

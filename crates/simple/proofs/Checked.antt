@@ -1,22 +1,22 @@
 -- What the checks of each entry establish. Assumes nothing.
-use Rattle.refusal.specs.declared.Reason.TheVariants.{BadSize, WrongLength, BadFace, BrokenChain, BadLink}
-use Rattle.mesh.specs.Answers.{Answer, shape, accepted}
+use Rattle.refusal.specs.declared.Reason.TheVariants.{BadSize, WrongLength}
+use Rattle.mesh.specs.Answers.{Answer, accepted}
 use Rattle.mesh.specs.Pass.{if_refused}
 use mathlib.Core.Path.{◌≡◌, refl, sym, ◌∙◌}
 use mathlib.Core.List.{List}
-use mathlib.Core.Bool.{Bool, true, ◌&&◌}
+use mathlib.Core.Bool.{true, ◌&&◌}
 use Prim.Native.Nat.{ℕ, ◌*◌, ◌≤◌}
 use native.Mathlib.Omega.{arith}
-use lib.Dec.{eqb, leb}
+use lib.Dec.{eqb}
 use lib.ListN.{length}
 use lib.Ieee.{Float}
 use borrow.Author.Tests.{eqb-true}
-use Rattle.mesh.specs.Checks.{largest_count, sizes_ok, lowest_bad_face, lowest_unknown_code, lowest_bad_link}
-use Rattle.mesh.specs.Facts.{FacesIn, LinksIn}
-use Rattle.mesh.specs.Mesh.{Conditions, bounds_of, conditions_sized, links}
+use Rattle.mesh.specs.Checks.{largest_count}
+use Rattle.mesh.specs.Facts.{FacesIn}
+use Rattle.mesh.specs.Mesh.{Conditions, bounds_of, conditions_sized}
 use Rattle.mesh.specs.declared.Counts.{Counts}
-use Rattle.mesh.proofs.Facts.{all_accepted, shape_accepted, passed, nothing_at, small, faces_in, links_in, peer_below}
-use Rattle.chain.proofs.Search.{none_lower}
+use Rattle.mesh.proofs.Facts.{all_accepted, passed, small, peer_below}
+use Rattle.mesh.proofs.Good.{sides_passed, with_equations_passed, links_passed}
 use Rattle.chain.proofs.Truth.{and_true, every_at}
 use Rattle.numerics.specs.Slices.{Slices, lengths_of, stencil_sized}
 use Rattle.numerics.specs.Gradient.{Sloped}
@@ -82,17 +82,9 @@ coefficients_passed n m responses outs h =
     let s = all_accepted _ h in
     let w = and_true (grid_sized n m && eqb (length responses.values) n.cells) (eqb outs n.faces) (passed WrongLength _ (s 1)) in
     let v = and_true (grid_sized n m) (eqb (length responses.values) n.cells) w.0 in
-    (coupled_by m n.cells n.faces (length responses.values) (eqb-true _ _ v.1) (coupled n m v.0 (faces_in n.cells m.adjacency (nothing_at BadFace _ (s 3)))), eqb-true _ _ w.1)
+    (coupled_by m n.cells n.faces (length responses.values) (eqb-true _ _ v.1) (coupled n m v.0 (sides_passed n.cells m.adjacency (s 3)).0), eqb-true _ _ w.1)
 
 -- ---- with conditions and links
-
--- 4 and 6, where they pass
-links_passed : (cells : ℕ) (adjacency codes : List ℕ) → links cells adjacency codes ≡ accepted → FacesIn cells adjacency × LinksIn adjacency codes
-unfolding links
-links_passed cells adjacency codes ok =
-    let s = all_accepted _ ok in
-    let none = none_lower (lowest_bad_face cells adjacency) (lowest_unknown_code codes) (nothing_at BadFace _ (s 0)) in
-    (faces_in cells adjacency none.0, links_in adjacency codes (nothing_at BadLink (lowest_bad_link adjacency codes) (s 1)))
 
 pub boundary_passed : (n : Counts) (m : Grid) (k : Conditions) (responses : Field) (outs : ℕ) → boundary_checks n m k responses outs ≡ accepted
     → Coupled m (length responses.values) n.faces × Bounded (bounds_of k) n.faces × (outs ≡ n.faces)
@@ -107,7 +99,7 @@ boundary_passed n m k responses outs h =
     let t = and_true (eqb (length k.codes) (2 * n.faces)) (eqb (length k.values) (4 * n.faces)) u.1 in
     let codes : length k.codes ≡ 2 * n.faces = eqb-true _ _ t.0 in (
       coupled_by m n.cells n.faces (length responses.values) (eqb-true _ _ v.1) (coupled n m u.0 linked.0),
-      record { codes = codes; values = eqb-true _ _ t.1; peers = λ f l. peer_below m.adjacency k.codes n.faces f codes (linked.1 f (omega (arith, codes, l))) },
+      record { codes = codes; values = eqb-true _ _ t.1; peers = λ f l. peer_below m.adjacency k.codes n.faces f codes (linked.2 f (omega (arith, codes, l))) },
       eqb-true _ _ w.1,
     )
 
@@ -133,8 +125,8 @@ correction_passed n adjacency k l outs h =
         values = eqb-true _ _ t.1;
         coefficients = eqb-true _ _ (w 3);
         sides = λ f b. rw x (linked.0 f (omega (arith, a, b)));
-        peers = λ f b. peer_below adjacency k.codes n.faces f codes (linked.1 f (omega (arith, codes, b)));
-        links = λ f b some. (linked.1 f (omega (arith, codes, b)) some).one_cell;
+        peers = λ f b. peer_below adjacency k.codes n.faces f codes (linked.2 f (omega (arith, codes, b)));
+        links = λ f b some. (linked.2 f (omega (arith, codes, b)) some).one_cell;
       };
       predicted = eqb-true _ _ (w 2);
       out = eqb-true _ _ (w 5);
@@ -158,7 +150,7 @@ metrics_passed n adjacency places flux outs two h =
     let o : outs ≡ n.cells = eqb-true _ _ (w 3) in
     let few = (small n (passed BadSize _ (s 0))).cells in
     record {
-      flows = flows_by n.cells n.faces adjacency flux.values n.cells (eqb-true _ _ (w 0)) (eqb-true _ _ (w 2)) refl (nothing_at BadFace _ (s 3));
+      flows = flows_by n.cells n.faces adjacency flux.values n.cells (eqb-true _ _ (w 0)) (eqb-true _ _ (w 2)) refl (sides_passed n.cells adjacency (s 3)).0;
       places_size = omega (arith, p, o);
       few = omega (arith, few, o);
       pair = eqb-true _ _ (w 4);
@@ -166,9 +158,6 @@ metrics_passed n adjacency places flux outs two h =
     }
 
 -- ---- the prediction
-
-pub few_cells : (n : Counts) (records : ℕ) (t b c : Bool) → t ≡ sizes_ok n → shape (t && leb records largest_count) b c ≡ accepted → n.cells ≤ largest_count
-few_cells n records t b c e h = (small n (sym e ∙ (and_true t (leb records largest_count) (shape_accepted _ b c h).0).0)).cells
 
 pub record Predictable (n : Counts) (m : Grid) (records : ℕ) (s : Slices) (l : FlowFields) (slopes outs : ℕ) : Type 0 where
   pub sloped : Sloped s records l.pressure.values
@@ -186,6 +175,7 @@ prediction_passed n m stencil records s l slopes outs h =
     let held = stencil_sized n.cells records (lengths_of s) in
     let flowing = flow_sized n (sizes_of l) slopes outs in
     let q = all_accepted _ h in
+    let good = with_equations_passed n.cells m.adjacency s.equations s.starts (q 3) in
     let w = and_true (grid_sized n m && held) flowing (passed WrongLength _ (q 1)) in
     let v = and_true (grid_sized n m) held w.0 in
     let u = every_at (flow_sizes n (sizes_of l) slopes outs) w.1 in
@@ -196,8 +186,8 @@ prediction_passed n m stencil records s l slopes outs h =
     let g : slopes ≡ 3 * n.cells = eqb-true _ _ (u 4) in
     let o : outs ≡ n.faces = eqb-true _ _ (u 5) in
     record {
-      sloped = slopes_by n.cells records s l.pressure.values v.1 p (nothing_at BrokenChain _ (q 4));
-      coupled = coupled_by m n.cells n.faces (length l.responses.values) r (coupled n m v.0 (faces_in n.cells m.adjacency (nothing_at BadFace _ (q 3))));
+      sloped = slopes_by n.cells records s l.pressure.values v.1 p good.1;
+      coupled = coupled_by m n.cells n.faces (length l.responses.values) r (coupled n m v.0 good.0);
       velocity = omega (arith, y, p);
       responses = r ∙ sym p;
       walls = x;

@@ -47,7 +47,7 @@ correction_numbers n k l =
     ∷ eqb l.correction.number n.mesh
     ∷ []
 
--- 1 to 4, and 6, of what it is lent
+-- those of shape, and those of the adjacency with links
 unfoldable pub correction_checks : Counts → List ℕ → Conditions → Fields → ℕ → Answer
 correction_checks n adjacency k l outs =
     first_of

@@ -3,15 +3,9 @@
 // What an entry takes as several structs is lent apart, and checked together by that one function.
 #![tactic(auto)]
 
-ghost use Rattle.std.specs.Prelude.{◌≡◌, ◌≤◌};
-ghost use Rattle.mesh.specs.Answers.{at, or_else};
+ghost use Rattle.std.specs.Prelude.{◌≡◌};
 ghost use Rattle.mesh.specs.Bundles.{conditions_of};
-ghost use Rattle.refusal.specs.declared.Reason.TheVariants.{BadFace, BrokenChain};
-ghost use Rattle.chain.specs.Chains.{lowest_broken};
-ghost use Rattle.mesh.specs.Checks.{largest_count, lowest_bad_face};
-ghost use Rattle.chain.specs.declared.Form.TheVariants.{Single};
 ghost use Rattle.numerics.specs.Bundles.{slices_of};
-ghost use Rattle.numerics.specs.Slices.{from_cell};
 ghost use Rattle.predictor.specs.Boundary.{boundary_checks, BoundaryCall};
 ghost use Rattle.predictor.specs.Coefficients.{coefficient_checks, CoefficientCall};
 ghost use Rattle.predictor.specs.Prediction.{prediction_checks, PredictionCall};
@@ -22,7 +16,6 @@ ghost use Rattle.coupling.specs.Grid.{grid_of_lent, field, field_of};
 ghost use Rattle.corrector.specs.Metrics.{metrics_checks, MetricsCall};
 ghost use Rattle.corrector.specs.Velocity.{velocity_checks, VelocityCall};
 
-use chain::Form;
 use corrector::inner::velocity::Velocity;
 use mesh::{Answer, Conditions, Counts, Faces, Field, Grid};
 use numerics::Stencil;
@@ -67,7 +60,8 @@ fn check_coefficients(grid: &Grid<'_>, responses: &Field<'_>, outs: usize) -> An
         & (outs == counts.faces);
     let same = responses.number == counts.mesh;
     mesh::shape(mesh::sizes_ok(counts), sized, same)?;
-    mesh::at(Reason::BadFace, grid.faces().lowest_bad_face())
+    #[tactic(auto, using(mesh::proofs::Facts::small))]
+    grid.faces().check_sides()
 }
 
 // The coefficient of each face with two cells; +0.0 at the others.
@@ -102,6 +96,7 @@ fn check_boundary(
         & (outs == counts.faces);
     let same = (conditions.number == counts.mesh) & (responses.number == counts.mesh);
     mesh::shape(mesh::sizes_ok(counts), sized, same)?;
+    #[tactic(auto, using(mesh::proofs::Facts::small))]
     grid.faces().check_links(conditions.codes)
 }
 
@@ -130,22 +125,7 @@ pub fn pressure_face_coefficients_with_boundary<'a>(
     boundary.pressure_face_coefficients_with_boundary(out)
 }
 
-// The checks 4 and 5, of a mesh of not too many cells and a stencil.
-#[tactic(auto, using(mesh::proofs::Facts::in_order))]
-fn check_chains(faces: &Faces<'_>, stencil: &Stencil<'_>) -> Answer
-    requires { faces.now.counts.cells ≤ largest_count }
-    ensures checked { let cells = faces.now.counts.cells in
-        let face = lowest_bad_face cells faces.now.adjacency.now in
-        let cell = lowest_broken (from_cell cells) stencil.now.equations.now Single stencil.now.starts.now in
-        result ≡ or_else (at BadFace face) (at BrokenChain cell) }
-{
-    mesh::at(Reason::BadFace, faces.lowest_bad_face())?;
-    let limit = faces.counts.cells + 2;
-    let cell = chain::lowest_broken(limit, stencil.equations, Form::Single, stencil.starts);
-    mesh::at(Reason::BrokenChain, cell)
-}
-
-#[tactic(auto, using(mesh::proofs::Facts::in_order, mesh::proofs::Facts::shape_both), unfolding(predictor::specs::Prediction::prediction_checks))]
+#[tactic(auto, using(mesh::proofs::Facts::in_order, mesh::proofs::Facts::shape_first), unfolding(predictor::specs::Prediction::prediction_checks))]
 fn check_prediction(
     grid: &Grid<'_>,
     stencil: &Stencil<'_>,
@@ -169,8 +149,9 @@ fn check_prediction(
         & (fields.walls.number == counts.mesh);
     let few = mesh::sizes_ok(counts) & (stencil.records <= mesh::LARGEST_COUNT);
     mesh::shape(few, sized, same)?;
-    #[tactic(auto, using(crate::proofs::Checked::few_cells))]
-    check_chains(&grid.faces(), stencil)
+    #[tactic(auto, using(mesh::proofs::Facts::small))]
+    grid.faces()
+        .check_with_equations(stencil.equations, stencil.starts)
 }
 
 // The gradient of the pressure from the stencil, and the flux that is predicted with it: of a face
@@ -234,6 +215,7 @@ fn check_correction(
         & (fields.coefficients.number == counts.mesh)
         & (fields.correction.number == counts.mesh);
     mesh::shape(mesh::sizes_ok(counts), sized, same)?;
+    #[tactic(auto, using(mesh::proofs::Facts::small))]
     faces.check_links(conditions.codes)
 }
 
@@ -350,7 +332,8 @@ fn check_metrics(
         & (metrics == 2);
     let same = flux.number == counts.mesh;
     mesh::shape(mesh::sizes_ok(counts), sized, same)?;
-    mesh::at(Reason::BadFace, faces.lowest_bad_face())
+    #[tactic(auto, using(mesh::proofs::Facts::small))]
+    faces.check_sides()
 }
 
 // The outflow of each cell, and in `metrics` their root mean square and the largest divergence.

@@ -9,7 +9,7 @@ use Rattle.numerics.specs.Slices.{Lengths, stencil_sized, Slices, lengths_of}
 use Rattle.stencil.specs.Lent.{lent_of}
 use Rattle.stencil.specs.Stencil.{stencil_answer, stencil_slices}
 
--- 1 to 6, for room for so many records, in slices of these lengths
+-- those of shape and of the mesh, for room for so many records, in slices of these lengths
 unfoldable pub stencil_checks : Mesh → Conditions → ℕ → Lengths → Answer
 stencil_checks m k records n =
     first_of

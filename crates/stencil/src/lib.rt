@@ -16,7 +16,7 @@ mod lent;
 
 pub use lent::StencilMut;
 
-// The checks 1 to 6 for an entry that builds a stencil; the second is of its slices too.
+// The checks of shape and of the mesh for an entry that builds a stencil; 1 and 2 are of its slices too.
 #[tactic(auto, using(mesh::proofs::Facts::in_order, mesh::proofs::Facts::shape_first), unfolding(crate::specs::Checks::stencil_checks))]
 fn check_stencil(mesh: &Mesh<'_>, conditions: &Conditions<'_>, out: &StencilMut<'_>) -> Answer
     ensures checked { let m = mesh_of mesh.now in
@@ -27,6 +27,7 @@ fn check_stencil(mesh: &Mesh<'_>, conditions: &Conditions<'_>, out: &StencilMut<
     let small = mesh::sizes_ok(counts) & (out.records <= mesh::LARGEST_COUNT);
     let sized = mesh.is_sized() & conditions.is_sized(counts.faces) & out.is_sized(counts.cells);
     mesh::shape(small, sized, conditions.number == counts.mesh)?;
+    #[tactic(auto, using(mesh::proofs::Facts::small))]
     mesh.check_topology(conditions.codes)
 }
 

@@ -72,7 +72,7 @@ step_numbers d =
     ∷ eqb d.correction.number d.mesh.counts.mesh
     ∷ []
 
--- 1 to 6 of all that is lent
+-- those of shape and of the mesh, of all that is lent
 abbrev pub step_sized : Inputs → Handed → Bool
 step_sized d old =
     let n = d.mesh.counts in

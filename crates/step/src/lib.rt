@@ -36,6 +36,7 @@ fn check_step(
         sized,
         same,
     )?;
+    #[tactic(auto, using(mesh::proofs::Facts::small))]
     mesh.check_topology(conditions.codes)
 }
 

@@ -6,6 +6,7 @@ use common::{own, printed, told};
 use sheet::{polymesh, Fields, Sheet};
 use std::fs;
 use std::path::{Path, PathBuf};
+use std::sync::atomic::{AtomicUsize, Ordering};
 
 /// A folder beside the tests.
 fn folder(name: &str) -> PathBuf {
@@ -24,7 +25,10 @@ struct Copy(PathBuf);
 
 impl Copy {
     fn new(name: &str) -> Self {
-        let path = std::env::temp_dir().join(format!("juvandeer-{name}-{}", std::process::id()));
+        static MADE: AtomicUsize = AtomicUsize::new(0);
+        let made = MADE.fetch_add(1, Ordering::Relaxed);
+        let folder = format!("juvandeer-{name}-{}-{made}", std::process::id());
+        let path = std::env::temp_dir().join(folder);
         fs::create_dir_all(&path).unwrap();
         for file in ["points", "faces", "owner", "neighbour", "boundary"] {
             fs::copy(folder("two-cubes").join(file), path.join(file)).unwrap();

@@ -8,13 +8,12 @@ use native.Mathlib.Omega.{arith}
 use native.Mathlib.Nat.{le_trans}
 use native.Mathlib.Numerals.{sub-one}
 use borrow.Author.Tests.{ltb-true, ltb-false, lt-ltb, le-ltb, le-leb, eqb-true, eqb-false, ne_eqb}
-use lib.Dec.{eqb, leb, ltb, eqb-suc-zero}
+use lib.Dec.{eqb, ltb}
 use lib.ListN.{length}
 use Rattle.chain.specs.Pairs.{first_at, second_at}
 use Rattle.chain.specs.Chains.{item_of, next_of, ends, walk, head_at, cell_count, broken_cell, lowest_broken}
 use Rattle.chain.specs.declared.Form.TheVariants.{First}
-use Rattle.chain.proofs.Search.{none_found, below_none, below_more}
-use Rattle.chain.proofs.Truth.{and_true}
+use Rattle.chain.proofs.Search.{none_found, below_more}
 use Rattle.chain.proofs.Chains.{ended, opened, spare, walk_over, ends_more}
 use Rattle.degree.specs.Degree.{most_faces, long, lowest_long}
 use Rattle.degree.specs.Counts.{begin_after, Short}

@@ -199,9 +199,13 @@ impl<'a> Mesh<'a> {
             facing: self.facing,
         };
         let found = chains.search(self.counts.faces);
-        let broken = chain::lowest_broken(self.counts.cells, self.bordering, Form::Second, self.heads);
-        at(Reason::BrokenChain, chain::lower_of(found.broken, broken))?;
-        at(Reason::CrowdedCell, chain::lower_of(found.long, faces.lowest_crowded()))?;
+        let broken = chain::lower_of(
+            found.broken,
+            chain::lowest_broken(self.counts.cells, self.bordering, Form::Second, self.heads),
+        );
+        at(Reason::BrokenChain, broken)?;
+        let crowded = chain::lower_of(found.long, faces.lowest_crowded());
+        at(Reason::CrowdedCell, crowded)?;
         at(Reason::BadLink, faces.lowest_bad_link(codes))
     }
 

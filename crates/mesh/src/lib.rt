@@ -1,4 +1,4 @@
-// What is lent, by C too: the records of a mesh and of its conditions, the checks 1 to 6 of what is lent, and the
+// What is lent, by C too: the records of a mesh and of its conditions, the checks of shape and of the mesh, and the
 // clearing of outputs. Records stand in flat slices; `inner` reads them by value.
 #![tactic(auto)]
 

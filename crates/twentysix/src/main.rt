@@ -1,57 +1,41 @@
-// Refusal 14 of `mesh::check` at its limit of 26 faces to a cell. Writes a line for each case: its name, a colon,
-// and the answer. The lines in the crate's file `stdout` were written by hand from documents 01 and 02; none was
-// taken from a run.
-ghost use mathlib.Core.Path.{_≡_};
-ghost use lib.ListN.{take};
-use lent::Lent;
-use mesh::Answer;
+// Refusal 14 of `mesh::Mesh::check` at its limit of 26 faces to a cell. Writes a line for each case: its name, a
+// colon, and the answer. The lines in the crate's file `stdout` were written by hand from documents 01 and 02;
+// none was taken from a run.
+#![tactic(auto)]
 
+use change::Change;
+use mesh::Answer;
+use std::io;
+
+mod case;
+mod change;
 mod faces;
 mod large;
-mod lent;
 mod order;
 mod records;
 
-// The first n numbers of a slice, or all where it has no more.
-fn part(s: &[usize], n: usize) -> &[usize]
-    ensures { λ r. ⌜ now r ≡ take n (now (s .entry)) ⌝ }
-{
-    if n <= s.len() {
-        return &s[..n];
-    }
-    s
-}
-
-fn float_part(s: &[f64], n: usize) -> &[f64]
-    ensures { λ r. ⌜ now r ≡ take n (now (s .entry)) ⌝ }
-{
-    if n <= s.len() {
-        return &s[..n];
-    }
-    s
-}
-
 // Writes a case's line.
-fn print(name: &[u8], answer: Answer) {
-    pattern::print::text(name);
+fn tell(rt: &impl Print, name: &str, answer: Answer) -> io::Result<()> {
     match answer {
-        Answer::Accepted => pattern::print::text(b": accepted"),
-        Answer::Refused(number, index) => {
-            pattern::print::text(b": ");
-            pattern::print::refusal(number, index);
-        }
+        Ok(()) => println!(rt; "{name}: accepted"),
+        Err(refusal) => println!(rt; "{name}: {refusal}"),
     }
-    pattern::print::text(b"\n");
 }
 
-fn show(name: &[u8], lent: Lent) {
-    print(name, lent.checked());
+// Writes the line of each case: its name, and the changes that it makes to so many cells with no face.
+fn run<R: Print + AllocGlobal>(rt: &R, cells: u16, cases: &[(&str, &[Change])]) -> io::Result<()> {
+    for (name, changes) in cases {
+        tell(rt, name, case::of(rt.alloc(), cells, changes)?.check())?;
+    }
+    Ok(())
 }
 
-fn main() {
-    faces::all();
-    records::all();
-    order::all();
-    large::last_cells();
-    large::many();
+fn main(rt: HostRuntime) -> io::Result<()> {
+    run(&rt, 3, faces::CASES)?;
+    run(&rt, 3, records::CASES)?;
+    run(&rt, 3, order::CASES)?;
+    run(&rt, 4096, large::LAST_OF_4096)?;
+    run(&rt, 4097, large::LAST_OF_4097)?;
+    run(&rt, 65535, large::LAST_OF_65535)?;
+    run(&rt, 65535, large::MOST_FACES)
 }

@@ -1,121 +1,107 @@
 // Cells with too many faces or records beside what other checks refuse.
-use crate::lent::HEAD_OF_26;
-use crate::lent::HEAD_OF_27;
-use crate::lent::crowded;
-use crate::lent::long;
-use crate::lent::of;
-use crate::show;
+use crate::case::{HEAD_OF_26, HEAD_OF_27};
+use crate::change::Change::{
+    self, Between, Code, Counted, Dimension, Face, FirstFace, FirstNeighbour, NextFace, Number, Of,
+    Peer,
+};
 
-fn shape() {
-    let base = crowded(0);
-    show(
-        b"27 faces of cell 0 and dimension 4",
-        base.with_dimension(4),
-    );
-    show(b"27 faces of cell 0, 28 counted", base.with_faces(28));
-    show(
-        b"27 faces of cell 0 and another mesh number",
-        base.with_number(8),
-    );
-}
-
-fn bad_faces() {
-    let base = crowded(0);
-    show(
-        b"27 faces of cell 0, neighbour of the last missing",
-        base.with_neighbour(26, 4),
-    );
-    show(
-        b"27 faces of cell 0, neighbour of the last its owner",
-        base.with_neighbour(26, 1),
-    );
-    show(
-        b"27 faces of cell 0, code 3 at the last",
-        base.with_code(26, 3),
-    );
-    show(
-        b"27 faces of cell 0, owner of face 27 missing",
-        of(0, 28).with_owner(27, 3),
-    );
-    show(
-        b"27 records of cell 0, owner of face 0 missing",
-        long(0).with_owner(0, 3),
-    );
-}
-
-fn broken_chains() {
-    show(
-        b"27 faces of cell 0, chain of faces broken at cell 2",
-        crowded(0).with_first_face(2, 31),
-    );
-    show(
-        b"27 faces of cell 0, chain of neighbours broken at cell 2",
-        crowded(0).with_first_neighbour(2, 31),
-    );
-    show(
-        b"27 faces of cell 2, chain of faces broken at cell 0",
-        crowded(2).with_first_face(0, 31),
-    );
-    show(
-        b"27 records of cell 0, chain of faces broken at cell 2",
-        long(0).with_first_face(2, 31),
-    );
-    show(
-        b"27 records of cell 0, chain of neighbours broken at cell 2",
-        long(0).with_first_neighbour(2, 31),
-    );
-}
-
-// A chain of 27 records that is not sound.
-fn unsound() {
-    let base = long(0);
-    show(b"circle of 27 records", base.with_next_face(30, HEAD_OF_27));
-    show(
-        b"27 records, the last its own next",
-        base.with_next_face(30, 30),
-    );
-    show(b"27 records and a missing one", base.with_next_face(30, 31));
-    show(
-        b"27 records, missing face in the last",
-        base.with_face(30, 1),
-    );
-    show(
-        b"27 records, missing face in a record before them",
-        base.with_face(3, 1),
-    );
-}
-
-fn bad_links() {
-    show(
-        b"27 faces of cell 2, face 0 linked to itself",
-        crowded(2).with_peer(0, 1),
-    );
-    show(
-        b"27 faces of cell 0, last face linked to itself",
-        crowded(0).with_peer(26, 27),
-    );
-    show(
-        b"27 records of cell 2, face 0 linked to itself",
-        long(2).with_peer(0, 1),
-    );
-    show(
-        b"26 faces and 26 records of cell 0, last face linked to itself",
-        of(0, 26).with_first_face(0, HEAD_OF_26).with_peer(25, 26),
-    );
-    show(
-        b"27 faces of cell 0, faces 0 and 1 linked",
-        crowded(0).with_peer(0, 2).with_peer(1, 1),
-    );
-    show(
-        b"26 faces of cell 0, faces 0 and 1 linked",
-        of(0, 26).with_peer(0, 2).with_peer(1, 1),
-    );
-}
-
-pub(crate) fn all() {
-    shape();
-    bad_faces();
-    broken_chains();
-    unsound();
-    bad_links();
-}
+pub const CASES: &[(&str, &[Change])] = &[
+    // Shape.
+    (
+        "27 faces of cell 0 and dimension 4",
+        &[Of(27, 0), Dimension(4)],
+    ),
+    ("27 faces of cell 0, 28 counted", &[Of(27, 0), Counted(28)]),
+    (
+        "27 faces of cell 0 and another mesh number",
+        &[Of(27, 0), Number(8)],
+    ),
+    // Bad faces.
+    (
+        "27 faces of cell 0, neighbour of the last missing",
+        &[Of(26, 0), Between(1, 0, 3)],
+    ),
+    (
+        "27 faces of cell 0, neighbour of the last its owner",
+        &[Of(26, 0), Between(1, 0, 0)],
+    ),
+    (
+        "27 faces of cell 0, code 3 at the last",
+        &[Of(27, 0), Code(26, 3)],
+    ),
+    (
+        "27 faces of cell 0, owner of face 27 missing",
+        &[Of(27, 0), Of(1, 3)],
+    ),
+    (
+        "27 records of cell 0, owner of face 0 missing",
+        &[Of(1, 3), FirstFace(0, HEAD_OF_27)],
+    ),
+    // Broken chains.
+    (
+        "27 faces of cell 0, chain of faces broken at cell 2",
+        &[Of(27, 0), FirstFace(2, 31)],
+    ),
+    (
+        "27 faces of cell 0, chain of neighbours broken at cell 2",
+        &[Of(27, 0), FirstNeighbour(2, 31)],
+    ),
+    (
+        "27 faces of cell 2, chain of faces broken at cell 0",
+        &[Between(26, 2, 1), Of(1, 2), FirstFace(0, 31)],
+    ),
+    (
+        "27 records of cell 0, chain of faces broken at cell 2",
+        &[Of(1, 0), FirstFace(0, HEAD_OF_27), FirstFace(2, 31)],
+    ),
+    (
+        "27 records of cell 0, chain of neighbours broken at cell 2",
+        &[Of(1, 0), FirstFace(0, HEAD_OF_27), FirstNeighbour(2, 31)],
+    ),
+    // A chain of 27 records, which is sound in the last case alone.
+    (
+        "circle of 27 records",
+        &[Of(1, 0), FirstFace(0, HEAD_OF_27), NextFace(30, HEAD_OF_27)],
+    ),
+    (
+        "27 records, the last its own next",
+        &[Of(1, 0), FirstFace(0, HEAD_OF_27), NextFace(30, 30)],
+    ),
+    (
+        "27 records and a missing one",
+        &[Of(1, 0), FirstFace(0, HEAD_OF_27), NextFace(30, 31)],
+    ),
+    (
+        "27 records, missing face in the last",
+        &[Of(1, 0), FirstFace(0, HEAD_OF_27), Face(30, 1)],
+    ),
+    (
+        "27 records, missing face in a record before them",
+        &[Of(1, 0), FirstFace(0, HEAD_OF_27), Face(3, 1)],
+    ),
+    // Bad links.
+    (
+        "27 faces of cell 2, face 0 linked to itself",
+        &[Between(26, 2, 1), Of(1, 2), Peer(0, 1)],
+    ),
+    (
+        "27 faces of cell 0, last face linked to itself",
+        &[Of(27, 0), Peer(26, 27)],
+    ),
+    (
+        "27 records of cell 2, face 0 linked to itself",
+        &[Of(1, 0), FirstFace(2, HEAD_OF_27), Peer(0, 1)],
+    ),
+    (
+        "26 faces and 26 records of cell 0, last face linked to itself",
+        &[Of(26, 0), FirstFace(0, HEAD_OF_26), Peer(25, 26)],
+    ),
+    (
+        "27 faces of cell 0, faces 0 and 1 linked",
+        &[Of(27, 0), Peer(0, 2), Peer(1, 1)],
+    ),
+    (
+        "26 faces of cell 0, faces 0 and 1 linked",
+        &[Of(26, 0), Peer(0, 2), Peer(1, 1)],
+    ),
+];

@@ -1,25 +1,25 @@
--- Namings as they are counted: a list with a number for each cell, which goes no further than one above the limit. And chains
--- that are found short in one reading of the records. Definitions only.
-use Rattle.std.specs.Prelude.{◌≡◌, List, Bool, true, ◌&&◌, cond, ℕ, zero, suc, ◌+◌, ◌-◌}
-use Rattle.std.specs.Prelude.{◌/◌, ◌≤◌, ◌<◌, eqb, ltb, length, get_or, set, Option, None, Some}
+-- Namings as they are counted: a list with a number for each cell, which goes no further than a byte. And chains that are found
+-- short in one reading of the records. Definitions only.
+use Rattle.std.specs.Prelude.{◌≡◌, List, Bool, true, ◌&&◌, cond, ℕ, zero, suc, ◌+◌, ◌-◌, ◌^◌}
+use Rattle.std.specs.Prelude.{◌/◌, ◌≤◌, ◌<◌, eqb, ltb, min, length, get_or, set, Option, None, Some}
 use Rattle.chain.specs.Pairs.{first_at, second_at}
 use Rattle.chain.specs.Chains.{ends}
 use Rattle.degree.specs.Degree.{most_faces}
 
-unfoldable pub capped : ℕ → ℕ
-capped n = cond (ltb n (suc most_faces)) n (suc most_faces)
+-- a count stops at 255
+abbrev pub capped : ℕ → ℕ
+capped n = min n (2 ^ 8 - 1)
 
 -- one more for a cell
 abbrev pub bumped : List ℕ → ℕ → List ℕ
 bumped l c = set l c (capped (get_or l c 0 + 1))
 
--- one more for each cell that the face f names, once where it is owner and neighbour
+-- one more for each cell that the face f names
 unfoldable pub with_face : List ℕ → ℕ → List ℕ → List ℕ
 with_face adjacency f l =
-    let owner = first_at adjacency f in
     let neighbour = second_at adjacency f in
-    let k = bumped l owner in
-    cond (eqb neighbour 0) k (cond (eqb (neighbour - 1) owner) k (bumped k (neighbour - 1)))
+    let k = bumped l (first_at adjacency f) in
+    cond (eqb neighbour 0) k (bumped k (neighbour - 1))
 
 -- the faces below n
 unfoldable pub counted : List ℕ → List ℕ → ℕ → List ℕ

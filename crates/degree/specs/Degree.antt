@@ -1,5 +1,5 @@
 -- How many faces a cell has, counted twice over: the faces that name it, and the records of its chain of faces. Check 14. Definitions only.
-use Rattle.std.specs.Prelude.{List, Bool, ◌||◌, cond, ℕ, zero, suc, ◌/◌, ◌<◌, ◌≤◌, eqb, ltb, length, Option}
+use Rattle.std.specs.Prelude.{◌≡◌, List, Bool, ◌||◌, cond, ℕ, zero, suc, ◌+◌, ◌/◌, ◌<◌, ◌≤◌, eqb, ltb, length, Option}
 use Rattle.chain.specs.Pairs.{first_at, second_at}
 use Rattle.chain.specs.Search.{lowest_where}
 use Rattle.chain.specs.Chains.{head_at, cell_count, walk, lowest_broken}
@@ -11,6 +11,15 @@ abbrev pub most_faces : ℕ
 most_faces = 26
 
 -- ---- the faces that name a cell
+
+-- the cells of the face f, where check 4 has passed: owner and neighbour, which stands as cell + 1, are there and differ
+pub record CellsOf (cells : ℕ) (adjacency : List ℕ) (f : ℕ) : Type 0 where
+  pub owner : first_at adjacency f < cells
+  pub neighbour : second_at adjacency f ≤ cells
+  pub apart : second_at adjacency f ≡ first_at adjacency f + 1 → ⊥
+
+abbrev pub FacesIn : ℕ → List ℕ → Type 0
+FacesIn cells adjacency = (f : ℕ) → f < length adjacency / 2 → CellsOf cells adjacency f
 
 -- how many indices below n the test holds at
 unfoldable pub count_where : (ℕ → Bool) → ℕ → ℕ

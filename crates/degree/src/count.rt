@@ -1,51 +1,37 @@
-// The count of the faces that name each cell. How many cells there are and the adjacency go apart: the struct that
-// has both, `Faces`, is of `mesh`, above this crate.
+// The count of the faces that name each cell, where check 4 has passed. How many cells there are and the adjacency go
+// apart: the struct that has both, `Faces`, is of `mesh`, above this crate.
 ghost use Rattle.std.specs.Prelude.{◌≡◌, ◌+◌, ◌*◌, ◌/◌, ◌<◌, ◌≤◌, length, replicate};
-ghost use Rattle.degree.specs.Degree.{lowest_crowded};
-ghost use Rattle.degree.specs.Counts.{capped, bumped, with_face, counted};
+ghost use Rattle.degree.specs.Degree.{CellsOf, FacesIn, lowest_crowded};
+ghost use Rattle.degree.specs.Counts.{bumped, with_face, counted};
 
 use crate::MOST_FACES;
 use chain::inner::{first_of, named_at};
 
-// Where a count stops: one above the most.
-const OVER: u8 = MOST_FACES as u8 + 1;
-
-// One more, as far as a count goes.
-#[tactic(auto, using(crate::proofs::Counting::capped_small, crate::proofs::Counting::capped_large))]
-fn one_more(n: u8) -> u8
-    ensures { result ≡ capped (n + 1) }
-{
-    if n < OVER { n + 1 } else { OVER }
-}
-
-// One more for a cell, where there is a place for it.
-#[tactic(auto, using(crate::proofs::Counting::bumped_out))]
+// One more for a cell, as far as a byte goes.
 fn bump(named: &mut [u8], cell: usize)
+    requires { cell < length named.old }
     ensures { named.new ≡ bumped named.old cell }
 {
-    if cell < named.len() {
-        named[cell] = one_more(named[cell]);
-    }
+    named[cell] = named[cell].saturating_add(1);
 }
 
 // One more for each cell that the face f names.
 #[tactic(auto, unfolding(crate::specs::Counts::with_face))]
 fn add_face(adjacency: &[usize], f: usize, named: &mut [u8])
-    requires { 2 * f + 1 < length adjacency.now }
+    requires face { 2 * f + 1 < length adjacency.now }
+    requires cells { CellsOf (length named.old) adjacency.now f }
     ensures { named.new ≡ with_face adjacency.now f named.old }
 {
-    let owner = first_of(adjacency, f);
-    bump(named, owner);
+    bump(named, first_of(adjacency, f));
     if let Some(neighbour) = named_at(adjacency, f) {
-        if neighbour != owner {
-            bump(named, neighbour);
-        }
+        bump(named, neighbour);
     }
 }
 
 // The faces that name each cell, as far as a count goes.
-#[tactic(auto, unfolding(crate::specs::Counts::counted))]
+#[tactic(auto, using(crate::proofs::Counting::length_counted), unfolding(crate::specs::Counts::counted))]
 fn count(adjacency: &[usize], named: &mut [u8])
+    requires { FacesIn (length named.old) adjacency.now }
     ensures counts { let a = adjacency.now in
         named.new ≡ counted a named.old (length a / 2) }
 {
@@ -58,6 +44,7 @@ fn count(adjacency: &[usize], named: &mut [u8])
 fn lowest_in(cells: usize, adjacency: &[usize], named: &mut [u8]) -> Option<usize>
     requires room { cells ≤ length named.old }
     requires zeros { named.old ≡ replicate (length named.old) 0 }
+    requires faces { FacesIn cells adjacency.now }
     ensures { result ≡ lowest_crowded cells adjacency.now }
 {
     count(adjacency, named);
@@ -68,6 +55,7 @@ fn lowest_in(cells: usize, adjacency: &[usize], named: &mut [u8]) -> Option<usiz
 pub(crate) fn lowest_of<const N: usize>(cells: usize, adjacency: &[usize]) -> Option<usize>
     requires room { cells ≤ N }
     requires few { N ≤ 65536 }
+    requires faces { FacesIn cells adjacency.now }
     ensures { result ≡ lowest_crowded cells adjacency.now }
 {
     let mut named = [0u8; N];

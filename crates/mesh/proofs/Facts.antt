@@ -18,13 +18,14 @@ use Rattle.mesh.specs.Pass.{after, first_refusal}
 use Rattle.mesh.specs.Answers.{Outcome, refused, or_else, first_of, pass, at, shape, Answer, accepted}
 use Rattle.mesh.specs.Checks.{size_tests, sizes_ok, bad_face, lowest_bad_face, unknown_code, lowest_unknown_code, bad_link, lowest_bad_link}
 use Rattle.chain.specs.Chains.{ends, head_at, cell_count, broken_cell, lowest_broken}
+use Rattle.mesh.specs.Mesh.{lowest_four}
 use Rattle.mesh.specs.Records.{owner_at, neighbour_at, peer_at}
 use Rattle.degree.specs.Degree.{crowded, lowest_crowded, long, lowest_long, chain_length, most_faces, FewNamings}
 use Rattle.mesh.specs.Facts.{Small, FacesIn, CodesIn, ChainsIn, LinkOf, LinksIn}
 use Rattle.mesh.specs.declared.Counts.{Counts}
 use Rattle.chain.specs.declared.Form.{Form}
 use Rattle.chain.proofs.Truth.{every_at, none_at}
-use Rattle.chain.proofs.Search.{none_below}
+use Rattle.chain.proofs.Search.{none_below, none_lower}
 
 -- ---- answers
 pub both_accepted : (a b : Answer) → or_else a b ≡ accepted → (a ≡ accepted) × (b ≡ accepted)
@@ -80,6 +81,10 @@ unfolding broken_cell
 chains_in limit records form heads h c l =
     let e = none_below (broken_cell limit records form heads) (cell_count form heads) c h l in
     record { sound = not-false (ends records (length records / 2) limit (length records / 2) (head_at form heads c)) e }
+
+-- the same where the condition codes are searched too
+pub coded_in : (cells : ℕ) (adjacency codes : List ℕ) → lowest_four cells adjacency codes ≡ None → FacesIn cells adjacency
+coded_in cells adjacency codes h = faces_in cells adjacency (none_lower (lowest_bad_face cells adjacency) (lowest_unknown_code codes) h).0
 
 pub few_namings : (cells : ℕ) (adjacency : List ℕ) → lowest_crowded cells adjacency ≡ None → FewNamings cells adjacency
 unfolding crowded

@@ -1,8 +1,9 @@
 -- What the checks establish of what is lent, once they pass: every index that a function reads by is in range. Definitions only.
 use Rattle.std.specs.Prelude.{◌≡◌, List, ℕ, ◌+◌, ◌-◌, ◌/◌, ◌≤◌, ◌<◌, length}
 use Rattle.chain.specs.Chains.{Chain, head_at, cell_count}
+use Rattle.degree.specs.Degree as degree
 use Rattle.mesh.specs.Checks.{largest_count}
-use Rattle.mesh.specs.Records.{owner_at, neighbour_at, code_at, peer_at}
+use Rattle.mesh.specs.Records.{neighbour_at, code_at, peer_at}
 use Rattle.mesh.specs.declared.Counts.{Counts}
 use Rattle.chain.specs.declared.Form.{Form}
 
@@ -14,14 +15,12 @@ pub record Small (n : Counts) : Type 0 where
   pub facings : n.facings ≤ largest_count
   pub borderings : n.borderings ≤ largest_count
 
--- by check 4: the cells of the face f
-pub record CellsOf (cells : ℕ) (adjacency : List ℕ) (f : ℕ) : Type 0 where
-  pub owner : owner_at adjacency f < cells
-  pub neighbour : neighbour_at adjacency f ≤ cells
-  pub apart : neighbour_at adjacency f ≡ owner_at adjacency f + 1 → ⊥
+-- by check 4: the cells of the face f, and of each face
+abbrev pub CellsOf : ℕ → List ℕ → ℕ → Type 0
+CellsOf = degree.CellsOf
 
 abbrev pub FacesIn : ℕ → List ℕ → Type 0
-FacesIn cells adjacency = (f : ℕ) → f < length adjacency / 2 → CellsOf cells adjacency f
+FacesIn = degree.FacesIn
 
 abbrev pub CodesIn : List ℕ → Type 0
 CodesIn codes = (f : ℕ) → f < length codes / 2 → code_at codes f ≤ 2

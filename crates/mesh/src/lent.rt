@@ -1,8 +1,8 @@
 // What is lent together: a mesh or what of it a call reads, the conditions and links of its faces, a field.
-ghost use Rattle.std.specs.Prelude.{◌≡◌, ◌+◌, ◌*◌, ◌-◌, ◌<◌, length, SomeIff};
+ghost use Rattle.std.specs.Prelude.{◌≡◌, ◌+◌, ◌*◌, ◌-◌, ◌<◌, length, None, SomeIff};
 ghost use Rattle.degree.specs.Degree.{lowest_crowded};
 ghost use Rattle.mesh.specs.Checks.{lowest_bad_face, lowest_bad_link};
-ghost use Rattle.mesh.specs.Facts.{Small};
+ghost use Rattle.mesh.specs.Facts.{Small, FacesIn};
 ghost use Rattle.mesh.specs.Mesh.{mesh_sized, conditions_sized, lowest_four, sides, with_equations, links, topology, checks};
 ghost use Rattle.mesh.specs.Records.{neighbour_at, face_at, peer_at, translation_at, condition_at};
 ghost use Rattle.mesh.specs.Bundles.{mesh_of, conditions_of, grid_in, faces_in, bounds_in};
@@ -67,14 +67,16 @@ pub struct Field<'a> {
 impl<'a> Faces<'a> {
     // Check 4, of the cells that a face names: the lowest face that meets it.
     pub fn lowest_bad_face(&self) -> Option<usize>
-        ensures { result ≡ lowest_bad_face self.now.counts.cells self.now.adjacency.now }
+        ensures lowest { result ≡ lowest_bad_face self.now.counts.cells self.now.adjacency.now }
+        ensures faces { result ≡ None → FacesIn self.now.counts.cells self.now.adjacency.now }
     {
         chain::lowest(self.adjacency.len() / 2, |f| self.is_bad(f))
     }
 
     // Check 4, of the cells and the condition code of each face: the lowest that meets it.
     fn lowest_four(&self, codes: &[usize]) -> Option<usize>
-        ensures { result ≡ lowest_four self.now.counts.cells self.now.adjacency.now codes.now }
+        ensures lowest { result ≡ lowest_four self.now.counts.cells self.now.adjacency.now codes.now }
+        ensures faces { result ≡ None → FacesIn self.now.counts.cells self.now.adjacency.now }
     {
         chain::lower_of(self.lowest_bad_face(), lowest_unknown_code(codes))
     }
@@ -86,9 +88,10 @@ impl<'a> Faces<'a> {
         chain::lowest(codes.len() / 2, |f| self.is_badly_linked(codes, f))
     }
 
-    // Check 14, of the faces that name a cell: the lowest cell that meets it.
+    // Check 14, of the faces that name a cell, where 1 and 4 have passed: the lowest cell that meets it.
     fn lowest_crowded(&self) -> Option<usize>
-        requires { Small self.now.counts }
+        requires small { Small self.now.counts }
+        requires faces { FacesIn self.now.counts.cells self.now.adjacency.now }
         ensures { result ≡ lowest_crowded self.now.counts.cells self.now.adjacency.now }
     {
         degree::inner::lowest_crowded(self.counts.cells, self.adjacency)

@@ -2,7 +2,7 @@
 // clearing of outputs. Records stand in flat slices; `inner` reads them by value.
 #![tactic(auto)]
 
-ghost use Rattle.std.specs.Prelude.{◌≡◌, ◌*◌, true, eqb, length, replicate};
+ghost use Rattle.std.specs.Prelude.{◌≡◌, ◌*◌, true, eqb, length, replicate, None};
 ghost use Rattle.binary64.specs.Numbers.{zero64};
 ghost use Rattle.mesh.specs.Answers.{pass, at, shape, accepted};
 ghost use Rattle.mesh.specs.Records.{condition_of};
@@ -112,7 +112,8 @@ pub fn pass(reason: Reason, test: bool) -> Answer
 // A search that has to find nothing.
 #[tactic(auto, unfolding(crate::specs::Answers::at))]
 pub fn at(reason: Reason, found: Option<usize>) -> Answer
-    ensures { result ≡ at reason found }
+    ensures checked { result ≡ at reason found }
+    ensures nothing { result ≡ accepted → found ≡ None }
 {
     match found {
         None => Ok(()),

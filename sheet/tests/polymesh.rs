@@ -27,8 +27,8 @@ impl Copy {
     fn new(name: &str) -> Self {
         static MADE: AtomicUsize = AtomicUsize::new(0);
         let made = MADE.fetch_add(1, Ordering::Relaxed);
-        let folder = format!("juvandeer-{name}-{}-{made}", std::process::id());
-        let path = std::env::temp_dir().join(folder);
+        let unique = format!("juvandeer-{name}-{}-{made}", std::process::id());
+        let path = std::env::temp_dir().join(unique);
         fs::create_dir_all(&path).unwrap();
         for file in ["points", "faces", "owner", "neighbour", "boundary"] {
             fs::copy(folder("two-cubes").join(file), path.join(file)).unwrap();

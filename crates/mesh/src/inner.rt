@@ -1,6 +1,8 @@
-// Records read by value, for callers that have made the checks.
+// For callers that have made checks: records read by value, and the checks that come after others.
 ghost use Rattle.std.specs.Prelude.{◌≡◌, ◌+◌, ◌*◌, ◌<◌, length};
 ghost use Rattle.mesh.specs.Records.{cell_at};
+
+mod checks;
 
 use crate::Cell;
 use vector::inner::vector_at;

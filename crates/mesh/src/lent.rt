@@ -1,17 +1,13 @@
 // What is lent together: a mesh or what of it a call reads, the conditions and links of its faces, a field.
 ghost use Rattle.std.specs.Prelude.{◌≡◌, ◌+◌, ◌*◌, ◌-◌, ◌<◌, length, None, SomeIff};
-ghost use Rattle.degree.specs.Degree.{lowest_crowded};
 ghost use Rattle.mesh.specs.Checks.{lowest_bad_face, lowest_bad_link};
-ghost use Rattle.mesh.specs.Facts.{Small, FacesIn};
-ghost use Rattle.mesh.specs.Mesh.{mesh_sized, conditions_sized, lowest_four, sides, with_equations, links, topology, checks};
+ghost use Rattle.mesh.specs.Facts.{FacesIn};
+ghost use Rattle.mesh.specs.Mesh.{mesh_sized, conditions_sized, lowest_four, checks};
 ghost use Rattle.mesh.specs.Records.{neighbour_at, face_at, peer_at, translation_at, condition_at};
 ghost use Rattle.mesh.specs.Bundles.{mesh_of, conditions_of, grid_in, faces_in, bounds_in};
 
-use crate::{Answer, Condition, Counts, Face, at, is_sized, lowest_unknown_code, shape, sizes_ok};
-use chain::Form;
+use crate::{Answer, Condition, Counts, Face, is_sized, lowest_unknown_code, shape, sizes_ok};
 use chain::inner::{first_of, named_at};
-use degree::Chains;
-use refusal::Reason;
 use vector::Vec3;
 use vector::inner::vector_at;
 
@@ -74,7 +70,7 @@ impl<'a> Faces<'a> {
     }
 
     // Check 4, of the cells and the condition code of each face: the lowest that meets it.
-    fn lowest_four(&self, codes: &[usize]) -> Option<usize>
+    pub(crate) fn lowest_four(&self, codes: &[usize]) -> Option<usize>
         ensures lowest { result ≡ lowest_four self.now.counts.cells self.now.adjacency.now codes.now }
         ensures faces { result ≡ None → FacesIn self.now.counts.cells self.now.adjacency.now }
     {
@@ -86,49 +82,6 @@ impl<'a> Faces<'a> {
         ensures { result ≡ lowest_bad_link self.now.adjacency.now codes.now }
     {
         chain::lowest(codes.len() / 2, |f| self.is_badly_linked(codes, f))
-    }
-
-    // Check 14, of the faces that name a cell, where 1 and 4 have passed: the lowest cell that meets it.
-    fn lowest_crowded(&self) -> Option<usize>
-        requires small { Small self.now.counts }
-        requires faces { FacesIn self.now.counts.cells self.now.adjacency.now }
-        ensures { result ≡ lowest_crowded self.now.counts.cells self.now.adjacency.now }
-    {
-        degree::inner::lowest_crowded(self.counts.cells, self.adjacency)
-    }
-
-    // The checks 4 and 14. As those below it asks that check 1 has passed.
-    #[tactic(auto, using(crate::proofs::Facts::in_order), unfolding(crate::specs::Answers::first_of, crate::specs::Mesh::sides))]
-    pub fn check_sides(&self) -> Answer
-        requires { Small self.now.counts }
-        ensures { result ≡ sides self.now.counts.cells self.now.adjacency.now }
-    {
-        at(Reason::BadFace, self.lowest_bad_face())?;
-        at(Reason::CrowdedCell, self.lowest_crowded())
-    }
-
-    // The checks 4, 5 and 14 with the equations of a stencil.
-    #[tactic(auto, using(crate::proofs::Facts::in_order), unfolding(crate::specs::Answers::first_of, crate::specs::Mesh::with_equations))]
-    pub fn check_with_equations(&self, equations: &[usize], starts: &[usize]) -> Answer
-        requires { Small self.now.counts }
-        ensures { result ≡ with_equations self.now.counts.cells self.now.adjacency.now equations.now starts.now }
-    {
-        at(Reason::BadFace, self.lowest_bad_face())?;
-        let limit = self.counts.cells + 2;
-        let cell = chain::lowest_broken(limit, equations, Form::Single, starts);
-        at(Reason::BrokenChain, cell)?;
-        at(Reason::CrowdedCell, self.lowest_crowded())
-    }
-
-    // The checks 4, 14 and 6 with condition codes and links.
-    #[tactic(auto, using(crate::proofs::Facts::in_order), unfolding(crate::specs::Answers::first_of, crate::specs::Mesh::links))]
-    pub fn check_links(&self, codes: &[usize]) -> Answer
-        requires { Small self.now.counts }
-        ensures { result ≡ links self.now.counts.cells self.now.adjacency.now codes.now }
-    {
-        at(Reason::BadFace, self.lowest_four(codes))?;
-        at(Reason::CrowdedCell, self.lowest_crowded())?;
-        at(Reason::BadLink, self.lowest_bad_link(codes))
     }
 }
 
@@ -187,29 +140,6 @@ impl<'a> Mesh<'a> {
             & is_sized(self.places.len(), 4, self.counts.cells)
             & is_sized(self.facing.len(), 2, self.counts.facings)
             & is_sized(self.bordering.len(), 2, self.counts.borderings)
-    }
-
-    // The checks 4, 5, 14 and 6 with condition codes and links.
-    #[tactic(auto, using(crate::proofs::Facts::in_order), unfolding(crate::specs::Answers::first_of, crate::specs::Mesh::topology))]
-    pub fn check_topology(&self, codes: &[usize]) -> Answer
-        requires { Small self.now.counts }
-        ensures { result ≡ topology (mesh_of self.now) codes.now }
-    {
-        let faces = self.grid().faces();
-        at(Reason::BadFace, faces.lowest_four(codes))?;
-        let chains = Chains {
-            heads: self.heads,
-            facing: self.facing,
-        };
-        let found = chains.search(self.counts.faces);
-        let broken = chain::lower_of(
-            found.broken,
-            chain::lowest_broken(self.counts.cells, self.bordering, Form::Second, self.heads),
-        );
-        at(Reason::BrokenChain, broken)?;
-        let crowded = chain::lower_of(found.long, faces.lowest_crowded());
-        at(Reason::CrowdedCell, crowded)?;
-        at(Reason::BadLink, faces.lowest_bad_link(codes))
     }
 
     // Every check with conditions and links, in the order of docs/REFUSALS.md.

@@ -30,7 +30,7 @@ only_nan nan e = refl
 only_nan (inf s) e = absurd (true≢false (sym e))
 only_nan (fin s m k) e = absurd (true≢false (sym e))
 
-nan_is_nan : is_nan nan ≡ true
+pub nan_is_nan : is_nan nan ≡ true
 unfolding is_nan
 nan_is_nan = refl
 

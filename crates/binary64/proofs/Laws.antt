@@ -3,13 +3,14 @@ use Rattle.std.proofs.Common.{ℕ, ◌-◌, ◌*◌, ◌^◌, ◌≤◌, T, List
 use lib.Ieee.{Float, Format, binary64, prec, add, fits}
 use lib.Ieee.Scale.{finite}
 use Rattle.binary64.specs.Units.{count, signed_count, total, exact_total, total_count, AllFit}
-use Rattle.binary64.specs.Laws.{CountIsExact, Addition, Summation, OppositeSums, OppositeDifferences, SwappedDifferences, NegatedProducts, OppositeProducts, FitsKept, RootIsNearest, RootsOfSquares}
+use Rattle.binary64.specs.Laws.{CountIsExact, Addition, Summation, OppositeSums, OppositeDifferences, SwappedDifferences, NegatedProducts, OppositeProducts, FitsKept, SameIsEqual, RootIsNearest, RootsOfSquares}
 use Rattle.binary64.proofs.Value.{whole}
 use Rattle.binary64.proofs.Addition.{add_law}
 use Rattle.binary64.proofs.Summation.{zero, total_finite, total_law}
 use Rattle.binary64.proofs.Integers.{off_is, both_is, error_is}
 use Rattle.binary64.proofs.Sign.{mul-neg_left, mul-neg_right}
 use Rattle.binary64.proofs.Opposites.{add_opposed, sub_opposed, sub_swap, mul_opposed}
+use Rattle.binary64.proofs.Identical as identical
 use Rattle.binary64.proofs.Kept.{magnitude_fits, larger_fits, root_fits}
 use Rattle.binary64.proofs.root.Middles.{root_is_nearest}
 use Rattle.binary64.proofs.root.Returned.{returned_bits}
@@ -59,6 +60,9 @@ opposite_products = mul_opposed binary64
 
 pub fits_kept : FitsKept
 fits_kept x y F G = record { magnitudes = magnitude_fits binary64 x F; larger_ones = larger_fits binary64 x y F G; roots = root_fits binary64 x F }
+
+pub same_is_equal : SameIsEqual
+same_is_equal = identical.same_is_equal
 
 pub nearest-root : RootIsNearest
 nearest-root = root_is_nearest

@@ -10,4 +10,5 @@ pub mod Summation
 pub mod Sign
 pub mod Opposites
 pub mod Kept
+pub mod Identical
 pub mod Laws

@@ -1,8 +1,8 @@
 -- What is proved of binary64 in proofs/Laws.antt: the statements alone. One unit is 2 ^ -1074.
-use Rattle.std.specs.Prelude.{◌≡◌, ℕ, ◌-◌, ◌*◌, ◌^◌, ◌<◌, ◌≤◌, Bool, T, List, length, ℤ, ◌+ℤ◌, ◌-ℤ◌, from_bits, unsigned_abs}
+use Rattle.std.specs.Prelude.{◌≡◌, ℕ, ◌-◌, ◌*◌, ◌^◌, ◌<◌, ◌≤◌, Bool, true, T, List, length, ℤ, ◌+ℤ◌, ◌-ℤ◌, from_bits, unsigned_abs}
 use lib.Ieee.{Float, fin, binary64, up, down, neg, add, sub, mul, fits}
 use Rattle.std.specs.Float.Ieee.Scale.{finite}
-use Rattle.binary64.specs.Numbers.{zero64, is_usable, magnitude, larger}
+use Rattle.binary64.specs.Numbers.{zero64, is_usable, magnitude, larger, same}
 use Rattle.binary64.specs.Root.{root, Nearest}
 use Rattle.binary64.specs.Units.{count, signed_count, total, exact_total, total_count, AllFit, AllFinite, Opposite}
 
@@ -63,6 +63,12 @@ pub record Kept (x y : Float) : Type 0 where
 
 abbrev pub FitsKept : Type 0
 FitsKept = (x y : Float) → T (fits binary64 x) → T (fits binary64 y) → Kept x y
+
+-- ---- the same bits
+
+-- two floats of the format with the same bits are one
+abbrev pub SameIsEqual : Type 0
+SameIsEqual = (x y : Float) → T (fits binary64 x) → T (fits binary64 y) → same x y ≡ true → x ≡ y
 
 -- ---- the square root
 

@@ -1,5 +1,5 @@
 -- Tests on floats and choices among them, as the functions of the crate make them. Definitions only.
-use Rattle.std.specs.Prelude.{Bool, false, cond, not, ◌&&◌, is_nan, Float}
+use Rattle.std.specs.Prelude.{Bool, false, cond, not, ◌&&◌, eqb, is_nan, to_bits, Float}
 use Rattle.std.specs.Float.{nan, inf, fin, binary64}
 use Rattle.std.specs.Float.Ieee as Ieee
 use Rattle.std.specs.Float.Ieee.Scale.{finite}
@@ -37,6 +37,10 @@ magnitude (fin s m e) = fin false m e
 -- that one open, and is asked for magnitudes alone.
 unfoldable pub larger : Float → Float → Float
 larger a b = cond (is_nan a) b (cond (Ieee.lt a b) b a)
+
+-- the same bits; every NaN has the same here
+unfoldable pub same : Float → Float → Bool
+same a b = eqb (to_bits binary64 a) (to_bits binary64 b)
 
 -- one operation of binary64, rounded to nearest, ties to even
 infixl 65 ◌⊕◌

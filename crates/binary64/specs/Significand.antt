@@ -2,6 +2,7 @@
 use Rattle.std.specs.Prelude.{◌≡◌, ℕ, ◌+◌, ◌-◌, ◌*◌, ◌/◌, ◌%◌, ◌^◌, ◌<◌, ◌≤◌, from_bits, Float}
 use Rattle.std.specs.Float.{binary64}
 use Rattle.std.specs.Float.Ieee.{add, sub, mul}
+use Rattle.binary64.specs.Root.{root}
 
 -- h is the whole number nearest to the square root of a * 2 ^ 52: (h - 1/2) ^ 2 < a * 2 ^ 52 < (h + 1/2) ^ 2.
 pub record Near (a h : ℕ) : Type 0 where
@@ -20,6 +21,12 @@ pub record RootBits (b r : ℕ) : Type 0 where
   pub digits : ℕ
   pub pattern : r ≡ 1022 * 2 ^ 52 + digits
   pub near : Near ((b % 2 ^ 52 + 2 ^ 52) + (b / 2 ^ 52 - 1023) * (b % 2 ^ 52 + 2 ^ 52)) digits
+
+-- k is the bit pattern of the root of the normal number with the bit pattern b
+pub record Confirmed (b k : ℕ) : Type 0 where
+  pub normal : 2 ^ 52 ≤ b
+  pub above : 2 ^ 52 ≤ k
+  pub root : from_bits binary64 k ≡ root (from_bits binary64 b)
 
 -- y - g * g, by s
 abbrev pub rest : Float → Float → Float → Float

@@ -2,8 +2,9 @@
 // square root. The exact account of what a sum loses is in specs/ and proofs/.
 #![tactic(auto)]
 
-ghost use Rattle.std.specs.Prelude.{◌≡◌};
-ghost use Rattle.binary64.specs.Numbers.{is_finite, is_usable, is_far, magnitude, larger};
+ghost use Rattle.std.specs.Prelude.{◌≡◌, ◌⊎◌, true, ◌&&◌, from_bits};
+ghost use Rattle.std.specs.Float.{binary64};
+ghost use Rattle.binary64.specs.Numbers.{is_finite, is_usable, is_far, magnitude, larger, same};
 ghost use Rattle.binary64.specs.Root.{root};
 
 use root::Significand;
@@ -89,4 +90,47 @@ pub fn sqrt_guessed(x: f64, guess: f64) -> f64
         }
     }
     sqrt(x)
+}
+
+// Whether two numbers have the same bits; a NaN has those of every NaN.
+pub fn same(a: f64, b: f64) -> bool
+    ensures { result ≡ same a b }
+{
+    if a.is_nan() {
+        return b.is_nan();
+    }
+    if b.is_nan() {
+        return false;
+    }
+    a.to_bits() == b.to_bits()
+}
+
+// Its bits; 0 in place of a NaN, of whose bits std says nothing.
+fn bits_of(x: f64) -> u64
+    ensures bits { (result ≡ 0) ⊎ (from_bits binary64 result ≡ x) }
+{
+    if x.is_nan() { 0 } else { x.to_bits() }
+}
+
+// Whether r is seen to be the root of x by a test in floating point, without a division, a table or a branch:
+// where it is not seen, `is_root` tells.
+#[tactic(auto, using(crate::proofs::Identical::confirmed))]
+pub fn confirms(x: f64, r: f64) -> bool
+    ensures { result ≡ true → same r (root x) ≡ true }
+{
+    root::confirms(bits_of(x), bits_of(r))
+}
+
+// Whether r is the root of x, to the last bit.
+pub fn is_root(x: f64, r: f64) -> bool
+    ensures { result ≡ same r (root x) }
+{
+    confirms(x, r) || same(r, sqrt(x))
+}
+
+// Whether r is the root of x, and s that of y: as a rule without a branch on either.
+pub fn are_roots(x: f64, r: f64, y: f64, s: f64) -> bool
+    ensures { result ≡ (same r (root x) && same s (root y)) }
+{
+    (confirms(x, r) & confirms(y, s)) || (is_root(x, r) && is_root(y, s))
 }

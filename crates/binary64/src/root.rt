@@ -1,11 +1,11 @@
 // The square root of a number above zero: a guess in floating point and a test of it in floating point,
 // which about one number in 115 does not pass; for that one the significand as a whole number of 53 digits,
 // by an exact check of the guess, and digit by digit where the check does not pass.
-ghost use Rattle.std.specs.Prelude.{◌≡◌, ◌+◌, ◌*◌, ◌/◌, ◌%◌, ◌^◌, ◌<◌, ◌≤◌, T, IfSome};
+ghost use Rattle.std.specs.Prelude.{◌≡◌, ◌+◌, ◌*◌, ◌/◌, ◌%◌, ◌^◌, ◌<◌, ◌≤◌, true, T, IfSome};
 ghost use Rattle.std.specs.Float.{binary64};
 ghost use Rattle.std.specs.Float.Ieee.{fits, le, mul};
 ghost use Rattle.binary64.specs.Root.{nearest_root};
-ghost use Rattle.binary64.specs.Significand.{Near, Start, RootBits, rest, margin};
+ghost use Rattle.binary64.specs.Significand.{Near, Start, RootBits, Confirmed, rest, margin};
 
 // A number of 53 binary digits, the first of them a 1.
 #[derive(Clone, Copy)]
@@ -115,6 +115,24 @@ fn quick(bits: u64) -> Option<u64>
         }
     }
     None
+}
+
+// Whether the test tells that the number with the bit pattern k is the root of the normal number with the pattern b.
+// Both are brought between 1 and 4 by powers of two, and the first 26 digits of the former take the place of a guess.
+// Without a branch, so that a caller can ask for two numbers at once.
+#[tactic(auto, using(std::proofs::lemmas::Float::not_nan_f64_bits))]
+pub(crate) fn confirms(b: u64, k: u64) -> bool
+    ensures { result ≡ true → Confirmed b k }
+{
+    let t = b.wrapping_add(0x10_0000_0000_0000);
+    let fraction = k % 0x10_0000_0000_0000;
+    let leading = fraction / 0x800_0000 * 0x800_0000;
+    let y = f64::from_bits(t % 0x20_0000_0000_0000 + 0x3ff0_0000_0000_0000);
+    let s = f64::from_bits(leading + 0x3ff0_0000_0000_0000);
+    let g = f64::from_bits(fraction + 0x3ff0_0000_0000_0000);
+    (b.wrapping_sub(0x10_0000_0000_0000) < 0x7fe0_0000_0000_0000)
+        & (k >> 52 == (t >> 53) + 0x1ff)
+        & settles(y, s, g)
 }
 
 // A guess at the whole number nearest to the root of a * 2^odd * 2^52. Half of a bit pattern, and a number, is

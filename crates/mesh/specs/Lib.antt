@@ -1,8 +1,10 @@
 pub mod Answers
 pub mod Records
 pub mod Checks
+pub mod Distances
 pub mod Pass
 pub mod Facts
 pub mod Mesh
+pub mod FaceDistances
 pub mod Lent
 pub mod Bundles

@@ -1,11 +1,12 @@
 -- A mesh and its conditions as they are lent, and the checks of them in the order of docs/REFUSALS.md. Definitions only.
-use Rattle.refusal.specs.declared.Reason.TheVariants.{BadSize, WrongLength, OtherMesh, BadFace, BrokenChain, CrowdedCell, BadLink}
+use Rattle.refusal.specs.declared.Reason.TheVariants.{BadSize, WrongLength, OtherMesh, BadFace, BrokenChain, CrowdedCell, BadLink, WrongDistance}
 use Rattle.std.specs.Prelude.{◌≡◌, List, [], ◌∷◌, Bool, ◌&&◌, ℕ, ◌+◌, ◌*◌, ◌<◌, ◌≤◌, eqb, length, Float, Option}
 use Rattle.mesh.specs.Answers.{pass, at, first_of, Answer}
 use Rattle.chain.specs.Search.{every_of, lower}
 use Rattle.mesh.specs.Checks.{sizes_ok, lowest_bad_face, lowest_unknown_code, lowest_bad_link}
 use Rattle.chain.specs.Chains.{lowest_broken, Chain}
 use Rattle.degree.specs.Degree.{most_faces, lowest_crowded, chain_length, lowest_long, FewNamings}
+use Rattle.mesh.specs.Distances.{lowest_wrong_distances, lowest_wrong_between, Carried}
 use Rattle.mesh.specs.Facts.{Small, CellsOf, LinkOf}
 use Rattle.mesh.specs.Records.{peer_at, first_facing, first_bordering}
 use Rattle.mesh.specs.declared.Counts.{Counts}
@@ -47,7 +48,7 @@ bounds_of k = bounds k.codes k.values
 abbrev pub mesh_sizes : Mesh → List Bool
 mesh_sizes m =
     eqb (length m.adjacency) (2 * m.counts.faces)
-    ∷ eqb (length m.geometry) (9 * m.counts.faces)
+    ∷ eqb (length m.geometry) (11 * m.counts.faces)
     ∷ eqb (length m.heads) (2 * m.counts.cells)
     ∷ eqb (length m.places) (4 * m.counts.cells)
     ∷ eqb (length m.facing) (2 * m.counts.facings)
@@ -105,6 +106,23 @@ topology m codes =
     ∷ at BadLink (lowest_bad_link m.adjacency codes)
     ∷ [])
 
+-- ---- with geometry and places, 20 after these: the lowest face that carries a wrong distance
+
+unfoldable pub grid_sides : ℕ → List ℕ → List Float → List Float → Answer
+grid_sides cells adjacency geometry places =
+    first_of (sides cells adjacency ∷ at WrongDistance (lowest_wrong_between adjacency geometry places) ∷ [])
+
+unfoldable pub grid_with_equations : ℕ → List ℕ → List Float → List Float → List ℕ → List ℕ → Answer
+grid_with_equations cells adjacency geometry places equations starts =
+    first_of (with_equations cells adjacency equations starts ∷ at WrongDistance (lowest_wrong_between adjacency geometry places) ∷ [])
+
+unfoldable pub grid_links : ℕ → List ℕ → List Float → List Float → List ℕ → Answer
+grid_links cells adjacency geometry places codes =
+    first_of (links cells adjacency codes ∷ at WrongDistance (lowest_wrong_distances adjacency geometry places codes) ∷ [])
+
+unfoldable pub whole_mesh : Mesh → List ℕ → Answer
+whole_mesh m codes = first_of (topology m codes ∷ at WrongDistance (lowest_wrong_distances m.adjacency m.geometry m.places codes) ∷ [])
+
 -- of shape, then of the mesh
 unfoldable pub checks : Mesh → Conditions → Answer
 checks m k =
@@ -112,14 +130,14 @@ checks m k =
     (pass BadSize (sizes_ok m.counts)
     ∷ pass WrongLength (mesh_sized m && conditions_sized m.counts.faces k.codes k.values)
     ∷ pass OtherMesh (eqb k.number m.counts.mesh)
-    ∷ topology m k.codes
+    ∷ whole_mesh m k.codes
     ∷ [])
 
 -- ---- what the checks establish
 
 pub record Sized (m : Mesh) : Type 0 where
   pub adjacency : length m.adjacency ≡ 2 * m.counts.faces
-  pub geometry : length m.geometry ≡ 9 * m.counts.faces
+  pub geometry : length m.geometry ≡ 11 * m.counts.faces
   pub heads : length m.heads ≡ 2 * m.counts.cells
   pub places : length m.places ≡ 4 * m.counts.cells
   pub facing : length m.facing ≡ 2 * m.counts.facings
@@ -140,3 +158,4 @@ pub record Good (m : Mesh) (k : Conditions) : Type 0 where
   pub values : length k.values ≡ 4 * m.counts.faces
   pub same : k.number ≡ m.counts.mesh
   pub sound : Sound m k.codes
+  pub carried : (f : ℕ) → f < m.counts.faces → Carried m.adjacency m.geometry m.places f

@@ -18,15 +18,22 @@ owner_at adjacency f = first_at adjacency f
 abbrev pub neighbour_at : List ℕ → ℕ → ℕ
 neighbour_at adjacency f = second_at adjacency f
 
--- its nine floats: centre, area vector, normal
+-- its eleven floats: centre, area vector, normal, and two distances
 abbrev pub face_centre : List Float → ℕ → Vec3
-face_centre geometry f = vector_at geometry (9 * f)
+face_centre geometry f = vector_at geometry (11 * f)
 
 abbrev pub face_area : List Float → ℕ → Vec3
-face_area geometry f = vector_at geometry (9 * f + 3)
+face_area geometry f = vector_at geometry (11 * f + 3)
 
 abbrev pub face_normal : List Float → ℕ → Vec3
-face_normal geometry f = vector_at geometry (9 * f + 6)
+face_normal geometry f = vector_at geometry (11 * f + 6)
+
+-- how far its centre is from its owner's, and the other side's number, +0.0 where there is no other side
+abbrev pub own_distance_at : List Float → ℕ → Float
+own_distance_at geometry f = get_or geometry (11 * f + 9) nan
+
+abbrev pub other_distance_at : List Float → ℕ → Float
+other_distance_at geometry f = get_or geometry (11 * f + 10) nan
 
 abbrev pub face_at : List ℕ → List Float → ℕ → Face
 face_at adjacency geometry f = record {

@@ -3,6 +3,7 @@ ghost use Rattle.std.specs.Prelude.{◌≡◌, ◌+◌, ◌*◌, ◌<◌, length
 ghost use Rattle.mesh.specs.Records.{cell_at};
 
 mod checks;
+pub(crate) mod distances;
 
 use crate::Cell;
 use vector::inner::vector_at;

@@ -3,7 +3,7 @@ ghost use Rattle.std.specs.Prelude.{◌≡◌, ◌+◌, ◌*◌, ◌-◌, ◌<�
 ghost use Rattle.mesh.specs.Checks.{lowest_bad_face, lowest_bad_link};
 ghost use Rattle.mesh.specs.Facts.{FacesIn};
 ghost use Rattle.mesh.specs.Mesh.{mesh_sized, conditions_sized, lowest_four, checks};
-ghost use Rattle.mesh.specs.Records.{neighbour_at, face_at, peer_at, translation_at, condition_at};
+ghost use Rattle.mesh.specs.Records.{neighbour_at, face_at, own_distance_at, other_distance_at, peer_at, translation_at, condition_at};
 ghost use Rattle.mesh.specs.Bundles.{mesh_of, conditions_of, grid_in, faces_in, bounds_in};
 
 use crate::{Answer, Condition, Counts, Face, is_sized, lowest_unknown_code, shape, sizes_ok};
@@ -105,16 +105,31 @@ impl<'a> Grid<'a> {
     }
 
     pub fn face_at(&self, f: usize) -> Face
-        requires { (2 * f + 1 < length self.now.adjacency.now) × (9 * f + 8 < length self.now.geometry.now) }
+        requires { (2 * f + 1 < length self.now.adjacency.now) × (11 * f + 8 < length self.now.geometry.now) }
         ensures { result ≡ face_at self.now.adjacency.now self.now.geometry.now f }
     {
-        let g = 9 * f;
+        let g = 11 * f;
         Face {
             owner: first_of(self.adjacency, f),
             center: vector_at(self.geometry, g),
             area: vector_at(self.geometry, g + 3),
             normal: vector_at(self.geometry, g + 6),
         }
+    }
+
+    // The distances that the face f carries: its owner's, and the other side's.
+    pub fn own_distance(&self, f: usize) -> f64
+        requires { 11 * f + 9 < length self.now.geometry.now }
+        ensures { result ≡ own_distance_at self.now.geometry.now f }
+    {
+        self.geometry[11 * f + 9]
+    }
+
+    pub fn other_distance(&self, f: usize) -> f64
+        requires { 11 * f + 10 < length self.now.geometry.now }
+        ensures { result ≡ other_distance_at self.now.geometry.now f }
+    {
+        self.geometry[11 * f + 10]
     }
 }
 
@@ -135,7 +150,7 @@ impl<'a> Mesh<'a> {
         ensures { result ≡ mesh_sized (mesh_of self.now) }
     {
         is_sized(self.adjacency.len(), 2, self.counts.faces)
-            & is_sized(self.geometry.len(), 9, self.counts.faces)
+            & is_sized(self.geometry.len(), 11, self.counts.faces)
             & is_sized(self.heads.len(), 2, self.counts.cells)
             & is_sized(self.places.len(), 4, self.counts.cells)
             & is_sized(self.facing.len(), 2, self.counts.facings)
@@ -151,7 +166,7 @@ impl<'a> Mesh<'a> {
         let same = conditions.number == self.counts.mesh;
         shape(sizes_ok(self.counts), sized, same)?;
         #[tactic(auto, using(crate::proofs::Facts::small))]
-        self.check_topology(conditions.codes)
+        self.check_whole(conditions.codes)
     }
 }
 

@@ -7,7 +7,9 @@ ghost use Rattle.binary64.specs.Numbers.{zero64};
 ghost use Rattle.mesh.specs.Answers.{pass, at, shape, accepted};
 ghost use Rattle.mesh.specs.Records.{condition_of};
 ghost use Rattle.mesh.specs.Checks.{sizes_ok, lowest_unknown_code};
+ghost use Rattle.mesh.specs.FaceDistances.{distance_checks, DistancesCall, Passes20};
 
+use crate::inner::distances::{Linked, Sided};
 use refusal::{Reason, Refusal};
 use vector::Vec3;
 
@@ -126,6 +128,7 @@ pub fn at(reason: Reason, found: Option<usize>) -> Answer
 pub fn shape(counts: bool, lengths: bool, numbers: bool) -> Answer
     ensures checked { result ≡ shape counts lengths numbers }
     ensures counted { result ≡ accepted → counts ≡ true }
+    ensures sized { result ≡ accepted → lengths ≡ true }
 {
     pass(Reason::BadSize, counts)?;
     pass(Reason::WrongLength, lengths)?;
@@ -137,4 +140,48 @@ pub fn clear(out: &mut [f64])
     ensures { out.new ≡ replicate (length out.old) zero64 }
 {
     out.fill(0.0)
+}
+
+#[tactic(auto, using(crate::proofs::Facts::in_order, crate::proofs::Facts::shape_first), unfolding(crate::specs::FaceDistances::distance_checks))]
+fn check_distances(
+    faces: &Faces<'_>,
+    places: &[f64],
+    number: u64,
+    codes: &[usize],
+    geometry: usize,
+) -> Answer
+    ensures checked { let m = faces.now in
+        result ≡ distance_checks m.counts m.adjacency.now places.now number codes.now geometry }
+{
+    let counts = faces.counts;
+    let sized = is_sized(faces.adjacency.len(), 2, counts.faces)
+        & is_sized(places.len(), 4, counts.cells)
+        & is_sized(codes.len(), 2, counts.faces)
+        & is_sized(geometry, 11, counts.faces);
+    shape(sizes_ok(counts), sized, number == counts.mesh)?;
+    #[tactic(auto, using(crate::proofs::Facts::small))]
+    faces.check_links(codes)
+}
+
+// The distances that the faces carry, by the centres that stand there, with these links; `number` is the mesh number
+// of the conditions that they are a part of. Whatever builds a mesh calls it.
+#[tactic(auto, using(crate::proofs::Made::measurable), unfolding(crate::specs::Pass::if_refused))]
+pub fn face_distances<'a>(
+    faces: &Faces<'a>,
+    places: &'a [f64],
+    number: u64,
+    codes: &[usize],
+    geometry: &mut [f64],
+) -> Answer
+    ensures call { let m = faces.now in
+        DistancesCall m.counts m.adjacency.now places.now number codes.now geometry.old result geometry.new }
+    ensures passes { result ≡ accepted → Passes20 faces.now.adjacency.now places.now codes.now geometry.new }
+{
+    check_distances(faces, places, number, codes, geometry.len())?;
+    let sided = Sided {
+        faces: *faces,
+        places,
+    };
+    Linked { sided, codes }.measure(geometry);
+    Ok(())
 }

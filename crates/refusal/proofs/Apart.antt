@@ -6,7 +6,7 @@ use Prim.Native.Nat.{ℕ}
 use lib.Dec.{eqb}
 use Rattle.refusal.specs.declared.Reason.{Reason}
 use Rattle.refusal.specs.declared.Reason.TheVariants.{BadSize, WrongLength, OtherMesh, BadFace, BrokenChain, BadLink}
-use Rattle.refusal.specs.declared.Reason.TheVariants.{TooNear, SingularStencil, BadCoefficient, NoCondition, BadDiagonal, BadVolume, CrowdedCell}
+use Rattle.refusal.specs.declared.Reason.TheVariants.{TooNear, SingularStencil, BadCoefficient, NoCondition, BadDiagonal, BadVolume, CrowdedCell, WrongDistance}
 use Rattle.refusal.specs.Numbers.{number_of, reasons, NumbersDiffer}
 
 -- the first of the reasons that has the number
@@ -29,6 +29,7 @@ back NoCondition = refl
 back BadDiagonal = refl
 back BadVolume = refl
 back CrowdedCell = refl
+back WrongDistance = refl
 
 pub numbers_differ : NumbersDiffer
 numbers_differ a b e = sym (back a) ∙ ap (λ n. with_number n reasons) e ∙ back b

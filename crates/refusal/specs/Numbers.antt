@@ -2,7 +2,7 @@
 use Rattle.std.specs.Prelude.{◌≡◌, ℕ, List, [], ◌∷◌, Result, Ok, Err}
 use Rattle.refusal.specs.declared.Reason.{Reason}
 use Rattle.refusal.specs.declared.Reason.TheVariants.{BadSize, WrongLength, OtherMesh, BadFace, BrokenChain, BadLink}
-use Rattle.refusal.specs.declared.Reason.TheVariants.{TooNear, SingularStencil, BadCoefficient, NoCondition, BadDiagonal, BadVolume, CrowdedCell}
+use Rattle.refusal.specs.declared.Reason.TheVariants.{TooNear, SingularStencil, BadCoefficient, NoCondition, BadDiagonal, BadVolume, CrowdedCell, WrongDistance}
 use Rattle.refusal.specs.declared.Refusal.{Refusal}
 use Rattle.refusal.specs.declared.UnknownNumber.{UnknownNumber}
 
@@ -20,6 +20,7 @@ number_of NoCondition = 10
 number_of BadDiagonal = 11
 number_of BadVolume = 12
 number_of CrowdedCell = 14
+number_of WrongDistance = 20
 
 -- in the order of their numbers
 abbrev pub reasons : List Reason
@@ -37,6 +38,7 @@ reasons =
     ∷ BadDiagonal
     ∷ BadVolume
     ∷ CrowdedCell
+    ∷ WrongDistance
     ∷ []
 
 abbrev pub refusal : Reason → ℕ → Refusal

@@ -23,6 +23,7 @@ pub enum Reason {
     BadDiagonal,
     BadVolume,
     CrowdedCell,
+    WrongDistance,
 }
 
 // The reason, and the face or the cell; 0 where it names none, as the C interface hands it out.
@@ -66,6 +67,7 @@ impl From<Reason> for u64 {
             Reason::BadDiagonal => 11,
             Reason::BadVolume => 12,
             Reason::CrowdedCell => 14,
+            Reason::WrongDistance => 20,
         }
     }
 }
@@ -90,6 +92,7 @@ impl TryFrom<u64> for Reason {
             11 => Ok(Reason::BadDiagonal),
             12 => Ok(Reason::BadVolume),
             14 => Ok(Reason::CrowdedCell),
+            20 => Ok(Reason::WrongDistance),
             _ => Err(UnknownNumber(number)),
         }
     }

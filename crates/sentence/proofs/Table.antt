@@ -9,7 +9,7 @@ use lib.Dec.{eqb, leb, leb-zero}
 use lib.ListN.{length}
 use Rattle.refusal.specs.declared.Reason.{Reason}
 use Rattle.refusal.specs.declared.Reason.TheVariants.{BadSize, WrongLength, OtherMesh, BadFace, BrokenChain, BadLink}
-use Rattle.refusal.specs.declared.Reason.TheVariants.{TooNear, SingularStencil, BadCoefficient, NoCondition, BadDiagonal, BadVolume, CrowdedCell}
+use Rattle.refusal.specs.declared.Reason.TheVariants.{TooNear, SingularStencil, BadCoefficient, NoCondition, BadDiagonal, BadVolume, CrowdedCell, WrongDistance}
 use Rattle.refusal.specs.Numbers.{number_of, reasons}
 use Rattle.sentence.specs.Sentence.{ascii, decimal, numbers, is_among, is_known, NumbersOfReasons, phrase, opening, sentence, written, SentenceCall, Short}
 use Rattle.sentence.proofs.Digits.{at_most_20}
@@ -47,6 +47,7 @@ known NoCondition = refl
 known BadDiagonal = refl
 known BadVolume = refl
 known CrowdedCell = refl
+known WrongDistance = refl
 
 found : (rs : List Reason) (n : ℕ) → is_among (map number_of rs) n ≡ true → (reason : Reason) × (number_of reason ≡ n)
 found [] n h = absurd (false≢true h)

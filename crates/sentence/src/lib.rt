@@ -65,5 +65,6 @@ fn opening(reason: Reason) -> &'static [u8]
         Reason::BadDiagonal => b"bad diagonal at ",
         Reason::BadVolume => b"bad volume at ",
         Reason::CrowdedCell => b"refusal 14 at ",
+        Reason::WrongDistance => b"refusal 20 at ",
     }
 }

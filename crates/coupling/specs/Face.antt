@@ -43,8 +43,8 @@ internal_coefficient s d r =
     (Err TooNear)
 
 -- of a linked face, whose other centre is that of the peer's owner, translated back; no test of a distance
-unfoldable pub linked_coefficient : Span → Pair → Outcome
-linked_coefficient s r = positive (projected (face_response (distances s) r) s.area (across s))
+unfoldable pub linked_coefficient : Span → Pair → Pair → Outcome
+linked_coefficient s d r = positive (projected (face_response d r) s.area (across s))
 
 -- of a fixed-value face, whose centre is `away` from the owner's
 unfoldable pub fixed_coefficient : Vec3 → Vec3 → Float → Outcome

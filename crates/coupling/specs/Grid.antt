@@ -2,9 +2,9 @@
 use Rattle.std.specs.Prelude.{◌≡◌, List, [], ◌∷◌, Bool, ℕ, ◌-◌, ◌*◌, ◌<◌, eqb, length, get_or, Float}
 use Rattle.std.specs.Float.{nan}
 use Rattle.mesh.specs.Facts.{CellsOf}
-use Rattle.vector.specs.Vector.{norm, difference}
+use Rattle.mesh.specs.Distances.{Carried}
 use Rattle.mesh.specs.Lent.{Slice}
-use Rattle.mesh.specs.Records.{owner_at, neighbour_at, face_centre, centre, face_at}
+use Rattle.mesh.specs.Records.{owner_at, neighbour_at, centre, face_at}
 use Rattle.chain.specs.Search.{every_of}
 use Rattle.mesh.specs.declared.Counts.{Counts}
 use Rattle.mesh.specs.declared.Face.{Face}
@@ -49,12 +49,6 @@ span_to m f other = span_of (face_at m.adjacency m.geometry f) m.places other
 abbrev pub span : Grid → ℕ → Span
 span m f = span_to m f (centre m.places (other_cell m f))
 
--- how far the centre of f is from those of the cells o and n
-abbrev pub distances_to : List Float → List Float → ℕ → ℕ → ℕ → Pair
-distances_to geometry places f o n =
-    let c = face_centre geometry f in
-    pair (norm (difference c (centre places o))) (norm (difference c (centre places n)))
-
 -- a field's numbers at the owner of f and at the cell n
 abbrev pub pair_at : Grid → List Float → ℕ → ℕ → Pair
 pair_at m field f n = pair (get_or field (own_cell m f) nan) (get_or field n nan)
@@ -77,7 +71,7 @@ field_of x = field x.number x.values.now
 -- 2: each slice is as long as its records
 abbrev pub grid_sizes : Counts → Grid → List Bool
 grid_sizes n m =
-    eqb (length m.adjacency) (2 * n.faces) ∷ eqb (length m.geometry) (9 * n.faces) ∷ eqb (length m.places) (4 * n.cells) ∷ []
+    eqb (length m.adjacency) (2 * n.faces) ∷ eqb (length m.geometry) (11 * n.faces) ∷ eqb (length m.places) (4 * n.cells) ∷ []
 
 abbrev pub grid_sized : Counts → Grid → Bool
 grid_sized n m = every_of (grid_sizes n m)
@@ -85,6 +79,7 @@ grid_sized n m = every_of (grid_sizes n m)
 -- what the checks establish of a mesh of so many cells and faces
 pub record Coupled (m : Grid) (cells faces : ℕ) : Type 0 where
   pub adjacency : length m.adjacency ≡ 2 * faces
-  pub geometry : length m.geometry ≡ 9 * faces
+  pub geometry : length m.geometry ≡ 11 * faces
   pub places : length m.places ≡ 4 * cells
   pub sides : (f : ℕ) → f < faces → CellsOf cells m.adjacency f
+  pub carried : (f : ℕ) → f < faces → Carried m.adjacency m.geometry m.places f

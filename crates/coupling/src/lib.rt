@@ -5,7 +5,7 @@
 
 ghost use Rattle.std.specs.Prelude.{◌≡◌};
 ghost use Rattle.coupling.specs.Cell.{inverse_diagonal, corrected_velocity, stands, divergence};
-ghost use Rattle.coupling.specs.Face.{distances, face_response, projected, positive, internal_coefficient, linked_coefficient, fixed_coefficient, mixed, predicted, predicted_flux, corrected_flux};
+ghost use Rattle.coupling.specs.Face.{face_response, projected, positive, internal_coefficient, linked_coefficient, fixed_coefficient, mixed, predicted, predicted_flux, corrected_flux};
 
 use mesh::Outcome;
 use refusal::Reason;
@@ -34,17 +34,6 @@ pub struct Side {
     pub gradient: Vec3,
     pub pressure: f64,
     pub response: f64,
-}
-
-// How far the face's centre is from the centres of its sides.
-#[tactic(auto, unfolding(crate::specs::Face::distances))]
-pub fn distances(s: Span) -> Pair
-    ensures { result ≡ distances s }
-{
-    Pair {
-        owner: s.center.sub(s.owner).norm(),
-        other: s.center.sub(s.other).norm(),
-    }
 }
 
 // The response at the face; d are the distances, r the responses.
@@ -89,12 +78,12 @@ pub fn internal_coefficient(s: Span, d: Pair, r: Pair) -> Outcome
     positive(projected(face_response(d, r), s.area, away))
 }
 
-// The coefficient of a linked face.
+// The coefficient of a linked face, likewise.
 #[tactic(auto, unfolding(crate::specs::Face::linked_coefficient))]
-pub fn linked_coefficient(s: Span, r: Pair) -> Outcome
-    ensures { result ≡ linked_coefficient s r }
+pub fn linked_coefficient(s: Span, d: Pair, r: Pair) -> Outcome
+    ensures { result ≡ linked_coefficient s d r }
 {
-    let response = face_response(distances(s), r);
+    let response = face_response(d, r);
     positive(projected(response, s.area, s.other.sub(s.owner)))
 }
 

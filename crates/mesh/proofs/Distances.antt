@@ -6,11 +6,13 @@ use mathlib.Core.Bool.{Bool, true, false, not, ◌&&◌, cond, true≢false}
 use Prim.Native.Nat.{ℕ, zero, suc, ◌+◌, ◌-◌, ◌*◌, ◌/◌, ◌%◌, ◌<◌}
 use native.Mathlib.Numerals.{add-one}
 use native.Mathlib.Omega.{arith}
-use lib.Dec.{eqb}
+use lib.Dec.{T, eqb}
 use lib.ListN.{length, get_or, set, length-set}
 use lib.Seq.{get_or-set_other}
-use lib.Ieee.{Float, nan}
+use lib.Ieee.{Float, nan, binary64, fits}
 use borrow.Author.Tests.{eqb-true, not-false}
+use Rattle.binary64.proofs.Identical.{same_is_equal}
+use Rattle.vector.proofs.Norm.{norm_fits}
 use Rattle.binary64.specs.Numbers.{zero64, same}
 use Rattle.chain.proofs.Search.{none_below}
 use Rattle.chain.proofs.Truth.{none_at}
@@ -90,3 +92,12 @@ module _ (a : List ℕ) (g p : List Float) (codes : List ℕ) where
       let own : owner_distance a now p n ≡ owner_distance a g p n = ap (λ (l : List Float). owner_distance a l p n) e ∙ own_kept n n in
       let other : other_distance a now p codes n ≡ other_distance a g p codes n = ap (λ (l : List Float). other_distance a l p codes n) e ∙ other_kept n n in
       rw add-one (h ∙ rw (own, other, e) refl)
+
+-- ---- what is carried is the distance
+
+pub own_carried : (a : List ℕ) (g p : List Float) (f : ℕ) → T (fits binary64 (own_distance_at g f)) → Carried a g p f → own_distance_at g f ≡ owner_distance a g p f
+own_carried a g p f t h = same_is_equal _ _ t (norm_fits _) h.own
+
+pub other_carried : (a : List ℕ) (g p : List Float) (f : ℕ) → T (fits binary64 (other_distance_at g f)) → Carried a g p f → (neighbour_at a f ≡ 0 → ⊥)
+    → other_distance_at g f ≡ neighbour_distance a g p f
+other_carried a g p f t h two = same_is_equal _ _ t (norm_fits _) (h.other two)

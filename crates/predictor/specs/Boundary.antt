@@ -5,14 +5,14 @@ use Rattle.std.specs.Float.{nan}
 use Rattle.binary64.specs.Numbers.{zero64}
 use Rattle.mesh.specs.Answers.{pass, first_of, or_else, Answer, Outcome, accepted}
 use Rattle.mesh.specs.Checks.{sizes_ok}
-use Rattle.mesh.specs.Mesh.{Bounds, Conditions, bounds_of, conditions_sized, links}
+use Rattle.mesh.specs.Mesh.{Bounds, Conditions, bounds_of, conditions_sized, grid_links}
 use Rattle.mesh.specs.Pass.{values_of, handed_out, if_refused}
 use Rattle.mesh.specs.Records.{neighbour_at, peer_at, face_centre, face_area, centre, translation_at, condition_at}
 use Rattle.vector.specs.Vector.{difference}
 use Rattle.mesh.specs.declared.Condition.{Condition}
 use Rattle.mesh.specs.declared.Condition.TheVariants.{Absent, Fixed, ZeroGradient}
 use Rattle.mesh.specs.declared.Counts.{Counts}
-use Rattle.coupling.specs.Face.{linked_coefficient, fixed_coefficient}
+use Rattle.coupling.specs.Face.{distances, linked_coefficient, fixed_coefficient}
 use Rattle.predictor.specs.Coefficients.{internal_at, coefficient_answer, coefficients}
 use Rattle.coupling.specs.Grid.{Grid, Field, own_cell, span_to, pair_at, grid_sized}
 use Rattle.passes.specs.Staged.{two_refusals}
@@ -29,8 +29,8 @@ by_condition m responses f Absent = Ok zero64
 unfoldable pub linked_at : Grid → Bounds → List Float → ℕ → Outcome
 linked_at m k responses f =
     let n = own_cell m (peer_at k.codes f - 1) in
-    let image = difference (centre m.places n) (translation_at k.values f) in
-    linked_coefficient (span_to m f image) (pair_at m responses f n)
+    let s = span_to m f (difference (centre m.places n) (translation_at k.values f)) in
+    linked_coefficient s (distances s) (pair_at m responses f n)
 
 -- a face with one cell: its link is looked at before its condition
 unfoldable pub boundary_at : Grid → Bounds → List Float → ℕ → Outcome
@@ -53,14 +53,14 @@ Begun m responses l = (coefficient_answer m responses (length l) ≡ accepted) �
 
 -- ---- the entry
 
--- those of shape, and those of the adjacency with links; `outs` is the length of the output
+-- those of shape, and those of a grid with links; `outs` is the length of the output
 unfoldable pub boundary_checks : Counts → Grid → Conditions → Field → ℕ → Answer
 boundary_checks n m k responses outs =
     first_of
     (pass BadSize (sizes_ok n)
     ∷ pass WrongLength (grid_sized n m && conditions_sized n.faces k.codes k.values && eqb (length responses.values) n.cells && eqb outs n.faces)
     ∷ pass OtherMesh (eqb k.number n.mesh && eqb responses.number n.mesh)
-    ∷ links n.cells m.adjacency k.codes
+    ∷ grid_links n.cells m.adjacency m.geometry m.places k.codes
     ∷ [])
 
 -- the answer, and what the output holds after the call: untouched where a check refuses, +0.0 where arithmetic does

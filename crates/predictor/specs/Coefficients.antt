@@ -4,7 +4,7 @@ use Rattle.std.specs.Prelude.{◌≡◌, List, [], ◌∷◌, ◌&&◌, cond, �
 use Rattle.binary64.specs.Numbers.{zero64}
 use Rattle.mesh.specs.Answers.{pass, first_of, or_else, Answer, Outcome}
 use Rattle.mesh.specs.Checks.{sizes_ok}
-use Rattle.mesh.specs.Mesh.{sides}
+use Rattle.mesh.specs.Mesh.{grid_sides}
 use Rattle.mesh.specs.Pass.{first_refusal, values_of, handed_out, if_refused}
 use Rattle.mesh.specs.Records.{neighbour_at}
 use Rattle.mesh.specs.declared.Counts.{Counts}
@@ -23,14 +23,14 @@ coefficient_answer m responses faces = first_refusal (internal_at m responses) f
 abbrev pub coefficients : Grid → List Float → ℕ → List Float
 coefficients m responses faces = values_of (internal_at m responses) faces
 
--- those of shape, and those of the adjacency; `outs` is the length of the output
+-- those of shape, and those of a grid; `outs` is the length of the output
 unfoldable pub coefficient_checks : Counts → Grid → Field → ℕ → Answer
 coefficient_checks n m responses outs =
     first_of
     (pass BadSize (sizes_ok n)
     ∷ pass WrongLength (grid_sized n m && eqb (length responses.values) n.cells && eqb outs n.faces)
     ∷ pass OtherMesh (eqb responses.number n.mesh)
-    ∷ sides n.cells m.adjacency
+    ∷ grid_sides n.cells m.adjacency m.geometry m.places
     ∷ [])
 
 -- the answer, and what the output holds after the call: untouched where a check refuses, +0.0 where arithmetic does

@@ -4,7 +4,7 @@ use Rattle.std.specs.Prelude.{◌≡◌, List, [], ◌∷◌, Bool, ◌&&◌, co
 use Rattle.std.specs.Float.{nan}
 use Rattle.mesh.specs.Answers.{pass, first_of, or_else, Answer, Outcome}
 use Rattle.mesh.specs.Checks.{largest_count, sizes_ok}
-use Rattle.mesh.specs.Mesh.{with_equations}
+use Rattle.mesh.specs.Mesh.{grid_with_equations}
 use Rattle.mesh.specs.Records.{neighbour_at}
 use Rattle.mesh.specs.Pass.{value_of, values_of, handed_out, if_refused}
 use Rattle.vector.specs.Vector.{vector_at}
@@ -102,14 +102,14 @@ flow_numbers n stencil l =
     ∷ eqb l.walls.number n.mesh
     ∷ []
 
--- those of shape, and those of the adjacency with a stencil's equations; `stencil` is the mesh number of the stencil
+-- those of shape, and those of a grid with a stencil's equations; `stencil` is the mesh number of the stencil
 unfoldable pub prediction_checks : Counts → Grid → ℕ → ℕ → Slices → FlowFields → ℕ → ℕ → Answer
 prediction_checks n m stencil records s l slopes outs =
     first_of
     (pass BadSize (sizes_ok n && leb records largest_count)
     ∷ pass WrongLength (grid_sized n m && stencil_sized n.cells records (lengths_of s) && flow_sized n (sizes_of l) slopes outs)
     ∷ pass OtherMesh (every_of (flow_numbers n stencil l))
-    ∷ with_equations n.cells m.adjacency s.equations s.starts
+    ∷ grid_with_equations n.cells m.adjacency m.geometry m.places s.equations s.starts
     ∷ [])
 
 -- the answer, and what the two outputs hold after the call: untouched where a check refuses, +0.0 where arithmetic does

@@ -5,18 +5,19 @@ use Rattle.mesh.specs.Pass.{if_refused}
 use mathlib.Core.Path.{◌≡◌, refl, sym, ◌∙◌}
 use mathlib.Core.List.{List}
 use mathlib.Core.Bool.{true, ◌&&◌}
-use Prim.Native.Nat.{ℕ, ◌*◌, ◌≤◌}
+use Prim.Native.Nat.{ℕ, ◌*◌, ◌≤◌, ◌<◌}
 use native.Mathlib.Omega.{arith}
 use lib.Dec.{eqb}
 use lib.ListN.{length}
 use lib.Ieee.{Float}
 use borrow.Author.Tests.{eqb-true}
 use Rattle.mesh.specs.Checks.{largest_count}
-use Rattle.mesh.specs.Facts.{FacesIn}
+use Rattle.mesh.specs.Facts.{FacesIn, GridSized}
 use Rattle.mesh.specs.Mesh.{Conditions, bounds_of, conditions_sized}
 use Rattle.mesh.specs.declared.Counts.{Counts}
 use Rattle.mesh.proofs.Facts.{all_accepted, passed, small, peer_below}
-use Rattle.mesh.proofs.Good.{sides_passed, with_equations_passed, links_passed}
+use Rattle.mesh.proofs.Good.{sides_passed, links_passed, grid_sides_passed, grid_with_equations_passed, grid_links_passed}
+use Rattle.mesh.specs.Distances.{Carried}
 use Rattle.chain.proofs.Truth.{and_true, every_at}
 use Rattle.numerics.specs.Slices.{Slices, lengths_of, stencil_sized}
 use Rattle.numerics.specs.Gradient.{Sloped}
@@ -61,15 +62,21 @@ velocity_passed n velocity responses gradient outs h =
 
 -- ---- faces and their cells
 
-coupled : (n : Counts) (m : Grid) → grid_sized n m ≡ true → FacesIn n.cells m.adjacency → Coupled m n.cells n.faces
-coupled n m h faces =
+pub gridded : (n : Counts) (m : Grid) → grid_sized n m ≡ true → GridSized n m.adjacency m.geometry m.places
+gridded n m h =
     let w = every_at (grid_sizes n m) h in
-    let a : length m.adjacency ≡ 2 * n.faces = eqb-true _ _ (w 0) in
+    record { adjacency = eqb-true _ _ (w 0); geometry = eqb-true _ _ (w 1); places = eqb-true _ _ (w 2) }
+
+coupled : (n : Counts) (m : Grid) → GridSized n m.adjacency m.geometry m.places → FacesIn n.cells m.adjacency
+    → ((f : ℕ) → f < n.faces → Carried m.adjacency m.geometry m.places f) → Coupled m n.cells n.faces
+coupled n m z faces carried =
+    let a = z.adjacency in
     record {
       adjacency = a;
-      geometry = eqb-true _ _ (w 1);
-      places = eqb-true _ _ (w 2);
+      geometry = z.geometry;
+      places = z.places;
       sides = λ f l. faces f (omega (arith, a, l));
+      carried = carried;
     }
 
 -- by the length that is at hand
@@ -82,7 +89,9 @@ coefficients_passed n m responses outs h =
     let s = all_accepted _ h in
     let w = and_true (grid_sized n m && eqb (length responses.values) n.cells) (eqb outs n.faces) (passed WrongLength _ (s 1)) in
     let v = and_true (grid_sized n m) (eqb (length responses.values) n.cells) w.0 in
-    (coupled_by m n.cells n.faces (length responses.values) (eqb-true _ _ v.1) (coupled n m v.0 (sides_passed n.cells m.adjacency (s 3)).0), eqb-true _ _ w.1)
+    let z = gridded n m v.0 in
+    let sides = grid_sides_passed n m.adjacency m.geometry m.places z (s 3) in
+    (coupled_by m n.cells n.faces (length responses.values) (eqb-true _ _ v.1) (coupled n m z sides.0 sides.1), eqb-true _ _ w.1)
 
 -- ---- with conditions and links
 
@@ -92,14 +101,15 @@ unfolding boundary_checks
 boundary_passed n m k responses outs h =
     let bound = conditions_sized n.faces k.codes k.values in
     let s = all_accepted _ h in
-    let linked = links_passed n.cells m.adjacency k.codes (s 3) in
     let w = and_true (grid_sized n m && bound && eqb (length responses.values) n.cells) (eqb outs n.faces) (passed WrongLength _ (s 1)) in
     let v = and_true (grid_sized n m && bound) (eqb (length responses.values) n.cells) w.0 in
     let u = and_true (grid_sized n m) bound v.0 in
     let t = and_true (eqb (length k.codes) (2 * n.faces)) (eqb (length k.values) (4 * n.faces)) u.1 in
-    let codes : length k.codes ≡ 2 * n.faces = eqb-true _ _ t.0 in (
-      coupled_by m n.cells n.faces (length responses.values) (eqb-true _ _ v.1) (coupled n m u.0 linked.0),
-      record { codes = codes; values = eqb-true _ _ t.1; peers = λ f l. peer_below m.adjacency k.codes n.faces f codes (linked.2 f (omega (arith, codes, l))) },
+    let codes : length k.codes ≡ 2 * n.faces = eqb-true _ _ t.0 in
+    let z = gridded n m u.0 in
+    let linked = grid_links_passed n m.adjacency m.geometry m.places k.codes z (s 3) in (
+      coupled_by m n.cells n.faces (length responses.values) (eqb-true _ _ v.1) (coupled n m z linked.0 linked.2),
+      record { codes = codes; values = eqb-true _ _ t.1; peers = λ f l. peer_below m.adjacency k.codes n.faces f codes (linked.1 f (omega (arith, codes, l))) },
       eqb-true _ _ w.1,
     )
 
@@ -175,9 +185,10 @@ prediction_passed n m stencil records s l slopes outs h =
     let held = stencil_sized n.cells records (lengths_of s) in
     let flowing = flow_sized n (sizes_of l) slopes outs in
     let q = all_accepted _ h in
-    let good = with_equations_passed n.cells m.adjacency s.equations s.starts (q 3) in
     let w = and_true (grid_sized n m && held) flowing (passed WrongLength _ (q 1)) in
     let v = and_true (grid_sized n m) held w.0 in
+    let z = gridded n m v.0 in
+    let good = grid_with_equations_passed n m.adjacency m.geometry m.places s.equations s.starts z (q 3) in
     let u = every_at (flow_sizes n (sizes_of l) slopes outs) w.1 in
     let y : length l.velocity.values ≡ 3 * n.cells = eqb-true _ _ (u 0) in
     let p : length l.pressure.values ≡ n.cells = eqb-true _ _ (u 1) in
@@ -187,7 +198,7 @@ prediction_passed n m stencil records s l slopes outs h =
     let o : outs ≡ n.faces = eqb-true _ _ (u 5) in
     record {
       sloped = slopes_by n.cells records s l.pressure.values v.1 p good.1;
-      coupled = coupled_by m n.cells n.faces (length l.responses.values) r (coupled n m v.0 good.0);
+      coupled = coupled_by m n.cells n.faces (length l.responses.values) r (coupled n m z good.0 good.2);
       velocity = omega (arith, y, p);
       responses = r ∙ sym p;
       walls = x;

@@ -58,7 +58,7 @@ pub(crate) fn is_grid_sized(grid: &Grid<'_>) -> bool
 {
     let counts = grid.counts;
     mesh::is_sized(grid.adjacency.len(), 2, counts.faces)
-        & mesh::is_sized(grid.geometry.len(), 9, counts.faces)
+        & mesh::is_sized(grid.geometry.len(), 11, counts.faces)
         & mesh::is_sized(grid.places.len(), 4, counts.cells)
 }
 

@@ -61,7 +61,7 @@ fn check_coefficients(grid: &Grid<'_>, responses: &Field<'_>, outs: usize) -> An
     let same = responses.number == counts.mesh;
     mesh::shape(mesh::sizes_ok(counts), sized, same)?;
     #[tactic(auto, using(mesh::proofs::Facts::small))]
-    grid.faces().check_sides()
+    grid.check_sides()
 }
 
 // The coefficient of each face with two cells; +0.0 at the others.
@@ -97,7 +97,7 @@ fn check_boundary(
     let same = (conditions.number == counts.mesh) & (responses.number == counts.mesh);
     mesh::shape(mesh::sizes_ok(counts), sized, same)?;
     #[tactic(auto, using(mesh::proofs::Facts::small))]
-    grid.faces().check_links(conditions.codes)
+    grid.check_links(conditions.codes)
 }
 
 // The coefficient of each face with two cells, with a link, or with a fixed value; +0.0 at the
@@ -150,8 +150,7 @@ fn check_prediction(
     let few = mesh::sizes_ok(counts) & (stencil.records <= mesh::LARGEST_COUNT);
     mesh::shape(few, sized, same)?;
     #[tactic(auto, using(mesh::proofs::Facts::small))]
-    grid.faces()
-        .check_with_equations(stencil.equations, stencil.starts)
+    grid.check_with_equations(stencil.equations, stencil.starts)
 }
 
 // The gradient of the pressure from the stencil, and the flux that is predicted with it: of a face

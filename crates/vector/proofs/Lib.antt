@@ -1,2 +1,3 @@
 -- Laws of lists of vectors.
 pub mod Vectors
+pub mod Norm

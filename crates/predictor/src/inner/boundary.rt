@@ -10,6 +10,7 @@ ghost use Rattle.passes.specs.Staged.{staged, Passes};
 
 use crate::inner::coefficients::{Coupling, pair_at, span_to};
 use chain::inner::first_of;
+use coupling::Pair;
 use mesh::inner::cell_at;
 use mesh::{Answer, Bounds, Condition, Outcome};
 use passes::{Stage, early, late, settle};
@@ -45,8 +46,9 @@ impl<'a> Boundary<'a> {
         }
     }
 
-    // The coefficient of the face f, which is linked with the face `peer`.
-    #[tactic(auto, unfolding(crate::specs::Boundary::linked_at))]
+    // The coefficient of the face f, which is linked with the face `peer`: the distance of the image, which no face
+    // carries, is worked out.
+    #[tactic(auto, unfolding(crate::specs::Boundary::linked_at, coupling::specs::Face::distances))]
     fn linked_at(&self, f: usize, peer: usize) -> Outcome
         requires f_lt_faces { f < self.now.coupling.grid.counts.faces }
         requires peer { peer_at self.now.bounds.codes.now f ≡ peer + 1 }
@@ -59,8 +61,12 @@ impl<'a> Boundary<'a> {
         let n = first_of(grid.adjacency, peer);
         let other = cell_at(grid.places, n);
         let image = other.center.sub(self.bounds.translation_at(f));
+        let d = Pair {
+            owner: self.coupling.own_distance(f),
+            other: face.center.sub(image).norm(),
+        };
         let responses = pair_at(self.coupling.responses, face.owner, n);
-        coupling::linked_coefficient(span_to(face, grid.places, image), responses)
+        coupling::linked_coefficient(span_to(face, grid.places, image), d, responses)
     }
 
     // The coefficient of the face f, which has one cell.

@@ -1,18 +1,18 @@
 // The coefficients of the faces with two cells.
 ghost use Rattle.std.specs.Prelude.{◌≡◌, ◌+◌, ◌*◌, ◌-◌, ◌<◌, length, get_or};
 ghost use Rattle.std.specs.Float.{nan};
+ghost use Rattle.mesh.specs.Distances.{owner_distance, neighbour_distance};
 ghost use Rattle.mesh.specs.Pass.{handed_out};
 ghost use Rattle.mesh.specs.Records.{neighbour_at};
-ghost use Rattle.coupling.specs.Face.{pair};
+ghost use Rattle.coupling.specs.Face.{pair, distances};
 ghost use Rattle.predictor.specs.Coefficients.{internal_at, coefficient_answer, coefficients};
-ghost use Rattle.coupling.specs.Grid.{grid_of_lent, own_cell, span, span_of, distances_to, pair_at, Coupled};
+ghost use Rattle.coupling.specs.Grid.{grid_of_lent, own_cell, span, span_of, pair_at, Coupled};
 
 use coupling::{Pair, Span};
 use mesh::inner::cell_at;
 use mesh::{Answer, Face, Grid, Outcome};
 use passes::settle;
 use vector::Vec3;
-use vector::inner::vector_at;
 
 // A mesh that passed the checks, and the responses of its cells.
 #[derive(Clone, Copy)]
@@ -47,23 +47,8 @@ pub fn pair_at(field: &[f64], owner: usize, other: usize) -> Pair
     }
 }
 
-// How far the centre of the face f is from those of the cells o and n. It is not `coupling::distances`:
-// the centres that a `Span` hands over were stored and read back, which took as long as all the rest of
-// the face.
-pub fn distances_at(geometry: &[f64], places: &[f64], f: usize, o: usize, n: usize) -> Pair
-    requires face { 9 * f + 8 < length geometry.now }
-    requires cells { (4 * o + 3 < length places.now) × (4 * n + 3 < length places.now) }
-    ensures { result ≡ distances_to geometry.now places.now f o n }
-{
-    let center = vector_at(geometry, 9 * f);
-    Pair {
-        owner: center.sub(vector_at(places, 4 * o)).norm(),
-        other: center.sub(vector_at(places, 4 * n)).norm(),
-    }
-}
-
-// A face between two cells. Their distances are left to `distances_at`: handed over in it they made a
-// face's coefficient take a sixth longer.
+// A face between two cells. Their distances are left to `distances`: handed over in it they made a face's coefficient
+// take a sixth longer.
 #[derive(Clone, Copy)]
 pub(crate) struct Joint {
     pub owner: usize,
@@ -72,6 +57,38 @@ pub(crate) struct Joint {
 }
 
 impl<'a> Coupling<'a> {
+    // How far the face f is from its owner, as it carries it: check 20 has passed.
+    pub(crate) fn own_distance(&self, f: usize) -> f64
+        requires { f < self.now.grid.counts.faces }
+        ensures { let m = self.now.grid in
+            result ≡ owner_distance m.adjacency.now m.geometry.now m.places.now f }
+    {
+        self.grid.own_distance(f)
+    }
+
+    // How far it is from its neighbour, likewise.
+    fn neighbour_distance(&self, f: usize) -> f64
+        requires face { f < self.now.grid.counts.faces }
+        requires two_cells { neighbour_at self.now.grid.adjacency.now f ≡ 0 → ⊥ }
+        ensures { let m = self.now.grid in
+            result ≡ neighbour_distance m.adjacency.now m.geometry.now m.places.now f }
+    {
+        self.grid.other_distance(f)
+    }
+
+    // How far it is from both.
+    #[tactic(auto, unfolding(coupling::specs::Face::distances))]
+    pub(crate) fn distances(&self, f: usize) -> Pair
+        requires face { f < self.now.grid.counts.faces }
+        requires two_cells { neighbour_at self.now.grid.adjacency.now f ≡ 0 → ⊥ }
+        ensures { result ≡ distances (span (grid_of_lent self.now.grid) f) }
+    {
+        Pair {
+            owner: self.own_distance(f),
+            other: self.neighbour_distance(f),
+        }
+    }
+
     // The face f between its owner and the cell n.
     pub(crate) fn joint_at(&self, f: usize, n: usize) -> Joint
         requires f_lt_faces { f < self.now.grid.counts.faces }
@@ -92,7 +109,7 @@ impl<'a> Coupling<'a> {
     }
 
     // The coefficient of the face f.
-    #[tactic(auto, unfolding(crate::specs::Coefficients::internal_at, coupling::specs::Face::distances))]
+    #[tactic(auto, unfolding(crate::specs::Coefficients::internal_at))]
     pub fn internal_at(&self, f: usize) -> Outcome
         requires f_lt_faces { f < self.now.grid.counts.faces }
         ensures answer { let m = grid_of_lent self.now.grid in
@@ -102,8 +119,7 @@ impl<'a> Coupling<'a> {
             return Ok(0.0);
         };
         let joint = self.joint_at(f, n);
-        let d = distances_at(self.grid.geometry, self.grid.places, f, joint.owner, n);
-        coupling::internal_coefficient(joint.span, d, joint.responses)
+        coupling::internal_coefficient(joint.span, self.distances(f), joint.responses)
     }
 
     #[tactic(auto, using(passes::proofs::Stages::handed))]

@@ -6,7 +6,7 @@ ghost use Rattle.coupling.specs.Grid.{grid_of_lent};
 ghost use Rattle.predictor.specs.Prediction.{side_at, predicted_at, prediction_answer, predicted_fluxes};
 ghost use Rattle.passes.specs.Staged.{staged, stored_at, Passes, Fills};
 
-use crate::inner::coefficients::{Coupling, distances_at};
+use crate::inner::coefficients::Coupling;
 use coupling::Side;
 use mesh::Answer;
 use numerics::inner::gradient::Slope;
@@ -61,7 +61,7 @@ impl<'s, 'a> Flow<'s, 'a> {
 
     // The flux of the face f; one with one cell keeps its wall flux. The coefficient of one with two cells,
     // which is stored where there is room, refuses before any flux.
-    #[tactic(auto, unfolding(crate::specs::Coefficients::internal_at, crate::specs::Prediction::predicted_at, passes::specs::Staged::staged, passes::specs::Staged::stored_at, mesh::specs::Pass::value_of, coupling::specs::Face::distances))]
+    #[tactic(auto, unfolding(crate::specs::Coefficients::internal_at, crate::specs::Prediction::predicted_at, passes::specs::Staged::staged, passes::specs::Staged::stored_at, mesh::specs::Pass::value_of))]
     fn stage_at(&self, f: usize, internal: &mut [f64]) -> Stage
         requires f_in_bounds { f < length self.now.walls.now }
         ensures answer { let m = grid_of_lent self.now.coupling.grid in
@@ -75,8 +75,7 @@ impl<'s, 'a> Flow<'s, 'a> {
             return Ok(Ok(self.walls[f]));
         };
         let joint = self.coupling.joint_at(f, n);
-        let grid = self.coupling.grid;
-        let d = distances_at(grid.geometry, grid.places, f, joint.owner, n);
+        let d = self.coupling.distances(f);
         let k = coupling::internal_coefficient(joint.span, d, joint.responses)?;
         store(internal, f, k);
         let (owner, other) = (self.side_at(joint.owner), self.side_at(n));

@@ -6,6 +6,7 @@
 ghost use Rattle.std.specs.Prelude.{◌≡◌};
 ghost use Rattle.binary64.specs.Root.{root};
 ghost use Rattle.mesh.specs.Answers.{Answer, answer_number, answer_index};
+ghost use Rattle.mesh.specs.FaceDistances.{DistancesCall, Passing};
 ghost use Rattle.mesh.specs.Lent.{mesh_lent, conditions_lent};
 ghost use Rattle.numerics.specs.Slices.{slices, slices_before, slices_after};
 ghost use Rattle.numerics.specs.Gradient.{GradientCall};
@@ -63,6 +64,31 @@ pub extern "C" fn juvandeer_refusal_sentence(number: u64, index: usize, out: &mu
     ensures call { SentenceCall number index out.old result out.new }
 {
     sentence::sentence(number, index, out)
+}
+
+// `mesh::face_distances`.
+#[unsafe(no_mangle)]
+pub extern "C" fn juvandeer_face_distances<'a>(
+    counts: Counts,
+    adjacency: &'a [usize],
+    places: &'a [f64],
+    number: u64,
+    codes: &'a [usize],
+    geometry: &'a mut [f64],
+    index: &mut usize,
+) -> u64
+    ensures told { let a = adjacency.now in
+        let p = places.now in
+        let k = codes.now in
+        let call : Answer → Type 0 = λ r. DistancesCall counts a p number k geometry.old r geometry.new in
+        let passes : Answer → Type 0 = λ r. Passing r a p k geometry.new in
+        Told (λ (r : Answer). call r × passes r) result index.new }
+{
+    let faces = Faces { counts, adjacency };
+    told(
+        mesh::face_distances(&faces, places, number, codes, geometry),
+        index,
+    )
 }
 
 // `stencil::least_squares_stencil`.

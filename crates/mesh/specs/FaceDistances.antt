@@ -2,7 +2,7 @@
 use Rattle.refusal.specs.declared.Reason.TheVariants.{BadSize, WrongLength, OtherMesh}
 use Rattle.std.specs.Prelude.{◌≡◌, List, [], ◌∷◌, Bool, ℕ, zero, suc, ◌+◌, ◌*◌, eqb, length, set, Float, None}
 use Rattle.chain.specs.Search.{every_of}
-use Rattle.mesh.specs.Answers.{pass, first_of, Answer}
+use Rattle.mesh.specs.Answers.{pass, first_of, Answer, accepted}
 use Rattle.mesh.specs.Checks.{sizes_ok}
 use Rattle.mesh.specs.Distances.{owner_distance, other_distance, lowest_wrong_distances, lowest_wrong_between}
 use Rattle.mesh.specs.Mesh.{links}
@@ -49,3 +49,6 @@ pub record DistancesCall (n : Counts) (adjacency : List ℕ) (places : List Floa
 pub record Passes20 (adjacency : List ℕ) (places : List Float) (codes : List ℕ) (geometry : List Float) : Type 0 where
   pub linked : lowest_wrong_distances adjacency geometry places codes ≡ None
   pub between : lowest_wrong_between adjacency geometry places ≡ None
+
+abbrev pub Passing : Answer → List ℕ → List Float → List ℕ → List Float → Type 0
+Passing r adjacency places codes geometry = r ≡ accepted → Passes20 adjacency places codes geometry

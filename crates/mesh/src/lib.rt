@@ -7,7 +7,7 @@ ghost use Rattle.binary64.specs.Numbers.{zero64};
 ghost use Rattle.mesh.specs.Answers.{pass, at, shape, accepted};
 ghost use Rattle.mesh.specs.Records.{condition_of};
 ghost use Rattle.mesh.specs.Checks.{sizes_ok, lowest_unknown_code};
-ghost use Rattle.mesh.specs.FaceDistances.{distance_checks, DistancesCall, Passes20};
+ghost use Rattle.mesh.specs.FaceDistances.{distance_checks, DistancesCall, Passing};
 
 use crate::inner::distances::{Linked, Sided};
 use refusal::{Reason, Refusal};
@@ -175,7 +175,7 @@ pub fn face_distances<'a>(
 ) -> Answer
     ensures call { let m = faces.now in
         DistancesCall m.counts m.adjacency.now places.now number codes.now geometry.old result geometry.new }
-    ensures passes { result ≡ accepted → Passes20 faces.now.adjacency.now places.now codes.now geometry.new }
+    ensures passes { Passing result faces.now.adjacency.now places.now codes.now geometry.new }
 {
     check_distances(faces, places, number, codes, geometry.len())?;
     let sided = Sided {

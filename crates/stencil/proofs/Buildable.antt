@@ -12,7 +12,7 @@ use Rattle.mesh.specs.Checks.{largest_count, sizes_ok}
 use Rattle.mesh.specs.Mesh.{Mesh, Conditions, mesh_sized, conditions_sized}
 use Rattle.chain.proofs.Truth.{and_true, every_at}
 use Rattle.mesh.proofs.Facts.{all_accepted, passed}
-use Rattle.mesh.proofs.Good.{sized, sound}
+use Rattle.mesh.proofs.Good.{sized, whole}
 use Rattle.stencil.specs.Lent.{lent_of, Buildable}
 use Rattle.numerics.specs.Slices.{Slices, lengths_of, stencil_sizes, stencil_sized}
 use Rattle.stencil.specs.Checks.{stencil_checks}
@@ -40,7 +40,7 @@ passed_checks m k records s h =
         sized = z;
         codes = eqb-true _ _ own.0;
         values = eqb-true _ _ own.1;
-        sound = sound m k.codes z (eqb-true _ _ own.0) (w 3);
+        sound = (whole m k.codes z (eqb-true _ _ own.0) (w 3)).0;
       };
       slices = record {
         starts = eqb-true _ _ (fits 0);

@@ -3,7 +3,7 @@ use Rattle.refusal.specs.declared.Reason.TheVariants.{BadSize, WrongLength, Othe
 use Rattle.std.specs.Prelude.{◌≡◌, [], ◌∷◌, ◌&&◌, ℕ, eqb, leb}
 use Rattle.mesh.specs.Answers.{pass, or_else, first_of, Answer}
 use Rattle.mesh.specs.Checks.{largest_count, sizes_ok}
-use Rattle.mesh.specs.Mesh.{Mesh, Conditions, mesh_sized, conditions_sized, topology}
+use Rattle.mesh.specs.Mesh.{Mesh, Conditions, mesh_sized, conditions_sized, whole_mesh}
 use Rattle.mesh.specs.Pass.{if_refused}
 use Rattle.numerics.specs.Slices.{Lengths, stencil_sized, Slices, lengths_of}
 use Rattle.stencil.specs.Lent.{lent_of}
@@ -16,7 +16,7 @@ stencil_checks m k records n =
     (pass BadSize (sizes_ok m.counts && leb records largest_count)
     ∷ pass WrongLength (mesh_sized m && conditions_sized m.counts.faces k.codes k.values && stencil_sized m.counts.cells records n)
     ∷ pass OtherMesh (eqb k.number m.counts.mesh)
-    ∷ topology m k.codes
+    ∷ whole_mesh m k.codes
     ∷ [])
 
 -- the answer, and what the slices hold after the call: untouched where a check refuses, else as the stencil is handed out

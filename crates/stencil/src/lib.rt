@@ -28,7 +28,7 @@ fn check_stencil(mesh: &Mesh<'_>, conditions: &Conditions<'_>, out: &StencilMut<
     let sized = mesh.is_sized() & conditions.is_sized(counts.faces) & out.is_sized(counts.cells);
     mesh::shape(small, sized, conditions.number == counts.mesh)?;
     #[tactic(auto, using(mesh::proofs::Facts::small))]
-    mesh.check_topology(conditions.codes)
+    mesh.check_whole(conditions.codes)
 }
 
 // The equations of every cell as chained records, the first record of each cell, and the nine

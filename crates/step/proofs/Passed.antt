@@ -11,7 +11,7 @@ use Rattle.mesh.specs.Checks.{largest_count, sizes_ok}
 use Rattle.mesh.specs.Mesh.{mesh_sized, conditions_sized}
 use Rattle.mesh.proofs.Facts.{all_accepted, shape_first, small}
 use Rattle.mesh.proofs.Facts as facts
-use Rattle.mesh.proofs.Good.{sized, sound}
+use Rattle.mesh.proofs.Good.{sized, whole}
 use Rattle.chain.proofs.Truth.{and_true, every_at}
 use Rattle.numerics.specs.Slices.{lengths_of, stencil_sizes}
 use Rattle.step.specs.Call.{Handed, field_sizes, fields_sized, output_sizes, outputs_sized, step_numbers, step_checks, OutputsFit}
@@ -38,7 +38,8 @@ passed d old h =
     (field_sizes n (length d.velocity.values) (length d.pressure.values) (length d.responses.values) (length d.walls.values) (length d.correction.values)) v.1 in
     let o = every_at (output_sizes n d.records old) w.1 in
     let t = every_at (stencil_sizes n.cells d.records (lengths_of old.stencil)) (o 0) in
-    let z = sized m u.0 in (
+    let z = sized m u.0 in
+    let met = whole m k.codes z (eqb-true _ _ own.0) (s 3) in (
       record {
         good = record {
           small = small n counts.0;
@@ -46,7 +47,8 @@ passed d old h =
           codes = eqb-true _ _ own.0;
           values = eqb-true _ _ own.1;
           same = eqb-true _ _ (same 0);
-          sound = sound m k.codes z (eqb-true _ _ own.0) (s 3);
+          sound = met.0;
+          carried = met.1;
         };
         few = leb-true d.records largest_count counts.1;
         velocity = eqb-true _ _ (f 0);

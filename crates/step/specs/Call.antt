@@ -6,7 +6,7 @@ use Rattle.std.specs.Float.Ieee.{fits}
 use Rattle.binary64.specs.Numbers.{zero64}
 use Rattle.mesh.specs.Answers.{pass, first_of, or_else, Answer, accepted}
 use Rattle.mesh.specs.Checks.{largest_count, sizes_ok}
-use Rattle.mesh.specs.Mesh.{mesh_sized, conditions_sized, topology}
+use Rattle.mesh.specs.Mesh.{mesh_sized, conditions_sized, whole_mesh}
 use Rattle.mesh.specs.Pass.{if_refused}
 use Rattle.chain.specs.Search.{every_of}
 use Rattle.mesh.specs.declared.Counts.{Counts}
@@ -86,7 +86,7 @@ step_checks d old =
     (pass BadSize (sizes_ok d.mesh.counts && leb d.records largest_count)
     ∷ pass WrongLength (step_sized d old)
     ∷ pass OtherMesh (every_of (step_numbers d))
-    ∷ topology d.mesh d.conditions.codes
+    ∷ whole_mesh d.mesh d.conditions.codes
     ∷ [])
 
 -- ---- the outputs

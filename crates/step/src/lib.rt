@@ -37,7 +37,7 @@ fn check_step(
         same,
     )?;
     #[tactic(auto, using(mesh::proofs::Facts::small))]
-    mesh.check_topology(conditions.codes)
+    mesh.check_whole(conditions.codes)
 }
 
 // One step of the coupling.

@@ -3,7 +3,7 @@ ghost use Rattle.std.specs.Prelude.{◌≡◌, ◌+◌, ◌*◌, ◌-◌, ◌<�
 ghost use Rattle.mesh.specs.Checks.{lowest_bad_face, lowest_bad_link};
 ghost use Rattle.mesh.specs.Facts.{FacesIn};
 ghost use Rattle.mesh.specs.Mesh.{mesh_sized, conditions_sized, lowest_four, checks};
-ghost use Rattle.mesh.specs.Records.{neighbour_at, face_at, own_distance_at, other_distance_at, peer_at, translation_at, condition_at};
+ghost use Rattle.mesh.specs.Records.{neighbour_at, face_at, peer_at, translation_at, condition_at};
 ghost use Rattle.mesh.specs.Bundles.{mesh_of, conditions_of, grid_in, faces_in, bounds_in};
 
 use crate::{Answer, Condition, Counts, Face, is_sized, lowest_unknown_code, shape, sizes_ok};
@@ -115,21 +115,6 @@ impl<'a> Grid<'a> {
             area: vector_at(self.geometry, g + 3),
             normal: vector_at(self.geometry, g + 6),
         }
-    }
-
-    // The distances that the face f carries: its owner's, and the other side's.
-    pub fn own_distance(&self, f: usize) -> f64
-        requires { 11 * f + 9 < length self.now.geometry.now }
-        ensures { result ≡ own_distance_at self.now.geometry.now f }
-    {
-        self.geometry[11 * f + 9]
-    }
-
-    pub fn other_distance(&self, f: usize) -> f64
-        requires { 11 * f + 10 < length self.now.geometry.now }
-        ensures { result ≡ other_distance_at self.now.geometry.now f }
-    {
-        self.geometry[11 * f + 10]
     }
 }
 

@@ -1,11 +1,11 @@
 // The distances that the faces carry: check 20, which holds them against the geometry, and how they are made. The
-// geometry is lent apart: who makes them writes it.
-ghost use Rattle.std.specs.Prelude.{◌≡◌, ◌*◌, ◌<◌, length};
+// geometry is lent apart: who makes them writes it. Methods of `Grid` as in lent.rt.
+ghost use Rattle.std.specs.Prelude.{◌≡◌, ◌+◌, ◌*◌, ◌<◌, length};
 ghost use Rattle.vector.specs.Vector.{difference};
 ghost use Rattle.mesh.specs.Facts.{Placed, PeersIn};
-ghost use Rattle.mesh.specs.Records.{owner_at, face_centre, centre};
+ghost use Rattle.mesh.specs.Records.{owner_at, face_centre, centre, own_distance_at, other_distance_at};
 
-use crate::Faces;
+use crate::{Faces, Grid};
 use chain::inner::{first_of, named_at};
 use vector::Vec3;
 use vector::inner::vector_at;
@@ -24,6 +24,23 @@ pub(crate) struct Linked<'a, 'k> {
     pub(crate) sided: Sided<'a>,
     pub(crate) codes: &'k [usize],
     pub(crate) ghost peers: { PeersIn codes.now sided.faces.counts.faces },
+}
+
+impl<'a> Grid<'a> {
+    // The distances that the face f carries: its owner's, and the other side's.
+    pub fn own_distance(&self, f: usize) -> f64
+        requires { 11 * f + 9 < length self.now.geometry.now }
+        ensures { result ≡ own_distance_at self.now.geometry.now f }
+    {
+        self.geometry[11 * f + 9]
+    }
+
+    pub fn other_distance(&self, f: usize) -> f64
+        requires { 11 * f + 10 < length self.now.geometry.now }
+        ensures { result ≡ other_distance_at self.now.geometry.now f }
+    {
+        self.geometry[11 * f + 10]
+    }
 }
 
 impl<'a> Sided<'a> {

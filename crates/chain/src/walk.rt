@@ -51,21 +51,9 @@ fn leads_on(limit: usize, records: &[usize], i: usize) -> bool
     requires { i + 1 < length records.now / 2 }
     ensures { result ≡ leads_on limit records.now i }
 {
-    if limit <= first_of(records, i) {
-        return false;
-    }
+    // without a branch: chains end at places that no branch foresees
     let next = second_of(records, i);
-    // most records lead to the one behind them, and this asks least of those
-    if next == i + 2 {
-        return true;
-    }
-    if next == 0 {
-        return true;
-    }
-    if next <= i + 1 {
-        return false;
-    }
-    next <= records.len() / 2
+    (first_of(records, i) < limit) & ((next == 0) | ((i + 1 < next) & (next <= records.len() / 2)))
 }
 
 // Whether the last record, i, does: it ends its chain.

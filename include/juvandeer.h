@@ -15,15 +15,17 @@
  *   stack, in 64 KiB of it whatever the number of cells; every call uses a few KiB besides.
  *
  * Everything else is tested: counts, mesh numbers, indices and chains may be anything, and a slice may
- * be longer or shorter than it is due. What outputs hold before a call does not matter, but for the one
- * that is read too, the flux of juvandeer_correct_face_flux_in_place.
+ * be longer or shorter than it is due. What outputs hold before a call does not matter, but for the flux
+ * of juvandeer_correct_face_flux_in_place, which is read too, and the geometry of
+ * juvandeer_face_distances, of which two numbers a face are written.
  *
  * A mesh is lent as counts and slices. Faces and cells count from 0; records count from 1, and a next
  * record of 0 ends a chain.
  *
  *   slice      type    numbers in all          one record
  *   adjacency  size_t  2 x faces               owner, neighbour + 1 (0: none)
- *   geometry   double  9 x faces               centre 3, area vector 3, normal 3
+ *   geometry   double  11 x faces              centre 3, area vector 3, normal 3, own distance, other
+ *                                              distance
  *   heads      size_t  2 x cells               first face record, first neighbour record
  *   places     double  4 x cells               centre 3, volume
  *   facing     size_t  2 x face records        face, next
@@ -34,6 +36,13 @@
  *   equations  size_t  2 x records             source, next
  *   weights    double  4 x records             coefficient 3, fixed value
  *   inverses   double  9 x cells               inverse of the normal matrix, row by row
+ *
+ * A face's own distance is from its centre to that of its owner. Its other distance is, of a face with two
+ * cells, from its centre to that of the neighbour; of a face with one cell and a link, the linked face's
+ * own distance, from the linked face's centre to that of the linked face's owner, so that no translation
+ * bears on it; of any other face +0.0. A distance is juvandeer_sqrt of (x * x + y * y) + z * z, where x, y
+ * and z are the face's centre less the cell's. juvandeer_face_distances makes both, by the places of the
+ * cells and the links that it is lent: a mesh that is lent with other links has other distances.
  *
  * A condition is 0 for absent, 1 for a fixed value, 2 for zero gradient. An equation's source is 0 for
  * a zero normal derivative, 1 for a fixed value, cell + 2 for a neighbour. Codes and values are the
@@ -71,10 +80,10 @@ struct juvandeer_counts {
 /* What a call returns, and what `*index` then is. An accepted call leaves 0 in `*index`.
  * juvandeer_refusal_sentence makes a sentence of the two.
  *
- * 1, 2, 3 (shape) and 4, 5, 14, 6 (mesh) are tested first, in this order, each by the calls that are lent
- * what it looks at, and leave every output untouched. The others are met within arithmetic, in its own
- * order, and leave +0.0, in whole numbers 0, in every output. 1 can be either: where a stencil needs more
- * than `records` equations it is 1 with index 0 within arithmetic, and the outputs are cleared. */
+ * 1, 2, 3 (shape) and 4, 5, 14, 6, 20 (mesh) are tested first, in this order, each by the calls that are
+ * lent what it looks at, and leave every output untouched. The others are met within arithmetic, in its
+ * own order, and leave +0.0, in whole numbers 0, in every output. 1 can be either: where a stencil needs
+ * more than `records` equations it is 1 with index 0 within arithmetic, and the outputs are cleared. */
 enum juvandeer_answer {
     JUVANDEER_ACCEPTED = 0,
     /* no cell, more than 65,535 of a count or of records, or a dimension not 2 or 3; index 0 */
@@ -103,7 +112,11 @@ enum juvandeer_answer {
     /* a volume that is not finite or at most 0; cell */
     JUVANDEER_INVALID_CELL_MEASURE = 12,
     /* more than 26 faces name a cell, or its chain has more than 26 face records; lowest cell */
-    JUVANDEER_CROWDED_CELL = 14
+    JUVANDEER_CROWDED_CELL = 14,
+    /* the own or the other distance of a face is not, bit for bit, what juvandeer_face_distances makes;
+     * any NaN agrees with any NaN. A call that is lent no links does not look at the other distance of a
+     * face with one cell; lowest face */
+    JUVANDEER_WRONG_DISTANCE = 20
 };
 
 /* Whether sums round to nearest, ties to even, and subnormals are neither flushed nor read as zero:
@@ -138,15 +151,34 @@ enum { JUVANDEER_SENTENCE_LONGEST = 41 };
  * Proved of any two refusals: where number or index differ, so do the sentences. */
 size_t juvandeer_refusal_sentence(uint64_t number, size_t index, uint8_t *out, size_t out_len);
 
+/* Makes the own and the other distance of each face. Whatever builds a mesh calls it last, once the centres
+ * of faces and cells, the cells of each face and the links are in place, and again where one of them
+ * changes: the calls that are lent the geometry refuse distances that are not these by 20.
+ *
+ *   in      adjacency 2 x faces, places 4 x cells; number before codes 2 x faces
+ *   in out  geometry 11 x faces: of each face the two distances are written, whatever they were, and the
+ *           nine numbers before them keep every bit
+ *
+ * Refusals: 1 to 4, 14 and 6, geometry as it was. None by arithmetic: a distance may be infinite or a
+ * NaN. */
+uint64_t juvandeer_face_distances(
+    struct juvandeer_counts counts,
+    const size_t *adjacency, size_t adjacency_len,
+    const double *places, size_t places_len,
+    uint64_t number,
+    const size_t *codes, size_t codes_len,
+    double *geometry, size_t geometry_len,
+    size_t *index);
+
 /* Builds the least-squares stencil of each cell from its faces and neighbours: the equations, and the
  * inverse of their normal matrix. It is the stencil that juvandeer_least_squares_gradient takes.
  *
- *   in   adjacency 2 x faces, geometry 9 x faces, heads 2 x cells, places 4 x cells,
+ *   in   adjacency 2 x faces, geometry 11 x faces, heads 2 x cells, places 4 x cells,
  *        facing 2 x face records, bordering 2 x neighbour records;
  *        number before codes 2 x faces and values 4 x faces; records, the room for equations
  *   out  starts 1 x cells, equations 2 x records, weights 4 x records, inverses 9 x cells
  *
- * Refusals: 1 to 5, 14 and 6, outputs untouched; 7 and 10 at a face, 8 at a cell, and 1 where the
+ * Refusals: 1 to 5, 14, 6 and 20, outputs untouched; 7 and 10 at a face, 8 at a cell, and 1 where the
  * equations need more than records, outputs +0.0 and 0. Records that are not used are 0. */
 uint64_t juvandeer_least_squares_stencil(
     struct juvandeer_counts counts,
@@ -216,11 +248,12 @@ uint64_t juvandeer_momentum_inverse_diagonal(
 /* The pressure coefficient of each face with two cells: the response at the face times the area
  * projected onto the line of centres, over its length. +0.0 at the other faces.
  *
- *   in   adjacency 2 x faces, geometry 9 x faces, places 4 x cells; response before
+ *   in   adjacency 2 x faces, geometry 11 x faces, places 4 x cells; response before
  *        responses 1 x cells
  *   out  out 1 x faces
  *
- * Refusals: 1 to 4 and 14, output untouched; 7 and 9 at a face, output +0.0. */
+ * Refusals: 1 to 4, 14 and 20, output untouched; 7 and 9 at a face, output +0.0. No links are lent: 20
+ * looks at every own distance, and at the other of each face with two cells. */
 uint64_t juvandeer_pressure_face_coefficients(
     struct juvandeer_counts counts,
     const size_t *adjacency, size_t adjacency_len,
@@ -234,12 +267,12 @@ uint64_t juvandeer_pressure_face_coefficients(
 /* The same, and the coefficient of each face with a link or a fixed value. A link is looked at before
  * the condition; +0.0 at the faces that are left.
  *
- *   in   adjacency 2 x faces, geometry 9 x faces, places 4 x cells; number before codes 2 x faces and
+ *   in   adjacency 2 x faces, geometry 11 x faces, places 4 x cells; number before codes 2 x faces and
  *        values 4 x faces; response before responses 1 x cells
  *   out  out 1 x faces
  *
- * Refusals: 1 to 4, 14 and 6, output untouched; 7 and 9 at a face with two cells, then 9 at any other,
- * output +0.0. */
+ * Refusals: 1 to 4, 14, 6 and 20, output untouched; 7 and 9 at a face with two cells, then 9 at any
+ * other, output +0.0. */
 uint64_t juvandeer_pressure_face_coefficients_with_boundary(
     struct juvandeer_counts counts,
     const size_t *adjacency, size_t adjacency_len,
@@ -256,14 +289,15 @@ uint64_t juvandeer_pressure_face_coefficients_with_boundary(
 /* The gradient of the pressure from the stencil, and the flux predicted with it: of a face with two
  * cells that of Rhie and Chow, of any other the wall flux as lent.
  *
- *   in   adjacency 2 x faces, geometry 9 x faces, places 4 x cells; stencil before starts 1 x cells,
+ *   in   adjacency 2 x faces, geometry 11 x faces, places 4 x cells; stencil before starts 1 x cells,
  *        equations 2 x records, weights 4 x records and inverses 9 x cells; velocity before
  *        velocities 3 x cells; pressure before pressures 1 x cells; response before
  *        responses 1 x cells; wall before walls 1 x faces
  *   out  gradient 3 x cells, out 1 x faces
  *
- * Refusals: 1 to 5 and 14, outputs untouched; 7 and 9 of a coefficient, then 9 of a flux, at a face,
- * outputs +0.0. */
+ * Refusals: 1 to 5, 14 and 20, outputs untouched; 7 and 9 of a coefficient, then 9 of a flux, at a face,
+ * outputs +0.0. No links are lent: 20 looks at every own distance, and at the other of each face with two
+ * cells. */
 uint64_t juvandeer_rhie_chow_predicted_flux(
     struct juvandeer_counts counts,
     const size_t *adjacency, size_t adjacency_len,
@@ -374,7 +408,7 @@ uint64_t juvandeer_continuity_metrics(
 /* The coupling step: stencil, predicted flux, coefficients with boundary, corrected flux, outflow and
  * metrics, as the functions above give them, with one set of conditions. The first refusal is its own.
  *
- *   in   adjacency 2 x faces, geometry 9 x faces, heads 2 x cells, places 4 x cells,
+ *   in   adjacency 2 x faces, geometry 11 x faces, heads 2 x cells, places 4 x cells,
  *        facing 2 x face records, bordering 2 x neighbour records; number before codes 2 x faces and
  *        values 4 x faces; records, the room for equations; velocity before velocities 3 x cells;
  *        pressure before pressures 1 x cells; response before responses 1 x cells; wall before
@@ -383,7 +417,7 @@ uint64_t juvandeer_continuity_metrics(
  *        gradient 3 x cells, predicted 1 x faces, coefficients 1 x faces, flux 1 x faces,
  *        outflow 1 x cells, metrics 2
  *
- * Refusals: 1 to 5, 14 and 6, outputs untouched; 7 to 10 and 12, and 1 where the equations need more
+ * Refusals: 1 to 5, 14, 6 and 20, outputs untouched; 7 to 10 and 12, and 1 where the equations need more
  * than records, outputs +0.0 and 0. 9 has index 0 where a metric or an outflow is not finite.
  *
  * Proved of every accepted step: fluxes and outflows are finite, each outflow is within

@@ -13,7 +13,7 @@ enum part {
 };
 
 /* Enough for the geometry of 32 faces. */
-#define ROOM 288
+#define ROOM 352
 
 /* A slice is the first numbers of its row, `whole` or `real` by its type. */
 struct call {
@@ -35,7 +35,9 @@ struct entry {
     int clears, over;
 };
 
-#define ENTRIES 12
+/* So many of them, from the first, have stored lines; juvandeer_face_distances, the last, has none. */
+enum { STORED = 12, FACE_DISTANCES = STORED, ENTRIES };
+
 extern const struct entry entries[ENTRIES];
 
 int is_whole(enum part part);
@@ -46,7 +48,8 @@ uint64_t bits_at(const struct call *call, enum part part, size_t i);
 /* The base, with the outputs of the entry filled, but for one that it reads too. */
 void lend(struct call *call, const struct entry *entry);
 
-/* Makes the change of that name; 0 where there is none. */
+/* Makes the change of that name, and where a centre may be another the distances; 0 where there is none, or
+ * where the distances are refused. */
 int change(struct call *call, const char *entry, const char *name);
 
 #endif

@@ -68,12 +68,12 @@ static const struct row rows[] = {
     {0, "zero gradient at face 3", WHOLE, CODES, 6, 2, 0},
 
     {0, "area of face 0 1e308", REAL, GEOMETRY, 3, 0, 1.0e308},
-    {0, "area of face 3 1e308", REAL, GEOMETRY, 31, 0, -1.0e308},
-    {0, "area of face 6 0", REAL, GEOMETRY, 58, 0, 0.0},
+    {0, "area of face 3 1e308", REAL, GEOMETRY, 37, 0, -1.0e308},
+    {0, "area of face 6 0", REAL, GEOMETRY, 70, 0, 0.0},
     {0, "centre distance 2^-25", REAL, PLACES, 4, 0, FARTHER},
     {0, "centre distance 2^-26", REAL, PLACES, 4, 0, NEAR},
-    {0, "centre of face 3 2^-27 from its cell's", REAL, GEOMETRY, 28, 0, BESIDE},
-    {0, "centre of face 3 its cell's", REAL, GEOMETRY, 28, 0, 0.5},
+    {0, "centre of face 3 2^-27 from its cell's", REAL, GEOMETRY, 34, 0, BESIDE},
+    {0, "centre of face 3 its cell's", REAL, GEOMETRY, 34, 0, 0.5},
     {0, "coefficient 0 at face 0", REAL, COEFFICIENTS, 0, 0, 0.0},
     {0, "coefficient 0 at face 6", REAL, COEFFICIENTS, 6, 0, 0.0},
     {0, "correction of cell 0 -1.7e308", REAL, CORRECTION, 0, 0, -1.7e308},
@@ -119,12 +119,21 @@ static void apply(struct call *call, const struct row *row)
     }
 }
 
+static int make_distances(struct call *call)
+{
+    uint64_t answer = entries[FACE_DISTANCES].make(call);
+    call->index = SIZE_MAX;
+    return !answer;
+}
+
 int change(struct call *call, const char *entry, const char *name)
 {
     for (size_t i = 0; i < sizeof rows / sizeof *rows; i++) {
         if (strcmp(rows[i].name, name) || (rows[i].entry && strcmp(rows[i].entry, entry)))
             continue;
         apply(call, &rows[i]);
+        if (rows[i].kind == REAL && (rows[i].part == GEOMETRY || rows[i].part == PLACES))
+            return make_distances(call);
         return 1;
     }
     return 0;

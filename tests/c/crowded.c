@@ -15,12 +15,12 @@ enum lent { NO_MESH, STENCIL, FACES, FACES_AND_STENCIL, FACES_AND_LINKS, WHOLE_M
 /* In the order of the entries. */
 static const enum lent lent_to[ENTRIES] = {
     NO_MESH, WHOLE_MESH, STENCIL, FACES, FACES_AND_LINKS, FACES_AND_STENCIL, FACES_AND_LINKS,
-    FACES_AND_LINKS, NO_MESH, FACES, FACES, WHOLE_MESH
+    FACES_AND_LINKS, NO_MESH, FACES, FACES, WHOLE_MESH, FACES_AND_LINKS
 };
 
 /* What is wrong besides: face 3 of a missing cell; the faces and the equations of cell 1 begin at a missing
- * record; face 4 is linked to itself. */
-enum fault { NONE, BAD_FACE, BROKEN_CHAINS, BAD_LINK };
+ * record; face 4 is linked to itself; the own distance of face 0 is another. */
+enum fault { NONE, BAD_FACE, BROKEN_CHAINS, BAD_LINK, WRONG_DISTANCE };
 
 /* Faces more that a cell has alone, faces more that both have, and records more of a cell's chain of faces,
  * which name a face of its own again. A number with its index for each kind; 0 is accepted. */
@@ -61,7 +61,9 @@ static const struct crowd crowds[] = {
     {.name = "27 records of cell 1, a bad link", .records = {0, 23}, .fault = BAD_LINK,
         .answers = {[FACES_AND_LINKS] = {6, 4}, [WHOLE_MESH] = {14, 1}}},
     {.name = "26 faces of cell 1, a bad link", .own = {0, 22}, .fault = BAD_LINK,
-        .answers = {[FACES_AND_LINKS] = {6, 4}, [WHOLE_MESH] = {6, 4}}}
+        .answers = {[FACES_AND_LINKS] = {6, 4}, [WHOLE_MESH] = {6, 4}}},
+    {.name = "27 faces of cell 1, a wrong distance", .own = {0, 23}, .fault = WRONG_DISTANCE,
+        .answers = {OF_FACES(14, 1), [WHOLE_MESH] = {14, 1}}}
 };
 
 /* Faces with the geometry of one of the base, a zero gradient and no link. Their fields are 0, and where a
@@ -73,10 +75,10 @@ static void add_faces(struct call *call, size_t faces, size_t owner, size_t neig
         call->whole[ADJACENCY][2 * f] = owner;
         call->whole[ADJACENCY][2 * f + 1] = neighbour;
         call->whole[CODES][2 * f] = 2;
-        memcpy(&call->real[GEOMETRY][9 * f], &call->real[GEOMETRY][9 * like], 9 * sizeof(double));
+        memcpy(&call->real[GEOMETRY][11 * f], &call->real[GEOMETRY][11 * like], 11 * sizeof(double));
     }
     call->length[ADJACENCY] += 2 * faces;
-    call->length[GEOMETRY] += 9 * faces;
+    call->length[GEOMETRY] += 11 * faces;
     call->length[CODES] += 2 * faces;
     call->length[VALUES] += 4 * faces;
     call->length[WALLS] += faces;
@@ -106,6 +108,8 @@ static void spoil(struct call *call, enum fault fault)
         call->whole[HEADS][2] = call->whole[STARTS][1] = 99;
     if (fault == BAD_LINK)
         call->whole[CODES][9] = 5;
+    if (fault == WRONG_DISTANCE)
+        call->real[GEOMETRY][9] = 1.0;
 }
 
 void judge_crowded(void)

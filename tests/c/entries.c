@@ -95,6 +95,13 @@ static uint64_t step(struct call *c)
         REAL(METRICS), &c->index);
 }
 
+static uint64_t distances(struct call *c)
+{
+    return juvandeer_face_distances(
+        c->counts, WHOLE(ADJACENCY), REAL(PLACES), c->number[CODES], WHOLE(CODES), REAL(GEOMETRY),
+        &c->index);
+}
+
 const struct entry entries[ENTRIES] = {
     {"momentum_inverse_diagonal", diagonal, {RESPONSES, PARTS}, 1, 0},
     {"least_squares_stencil", stencil, {STARTS, EQUATIONS, WEIGHTS, INVERSES, PARTS}, 1, 0},
@@ -108,5 +115,6 @@ const struct entry entries[ENTRIES] = {
     {"integrated_divergence", outflow, {OUTFLOW, PARTS}, 0, 0},
     {"continuity_metrics", metrics, {OUTFLOW, METRICS, PARTS}, 1, 0},
     {"step", step, {STARTS, EQUATIONS, WEIGHTS, INVERSES, GRADIENT, PREDICTED, COEFFICIENTS, FLUX,
-        OUTFLOW, METRICS, PARTS}, 1, 0}
+        OUTFLOW, METRICS, PARTS}, 1, 0},
+    {"face_distances", distances, {GEOMETRY, PARTS}, 0, 1}
 };

@@ -90,9 +90,9 @@ void judge_counts(void)
  * linked with face 2; face 6 is linked with face 0, which has two cells, and faces 5 and 4 to themselves. */
 void judge_links(void)
 {
-    static const char *const names[5] = {
+    static const char *const names[6] = {
         "least_squares_stencil", "pressure_face_coefficients_with_boundary",
-        "correct_face_flux_with_boundary", "correct_face_flux_in_place", "step"
+        "correct_face_flux_with_boundary", "correct_face_flux_in_place", "step", "face_distances"
     };
     static const struct {
         const char *name;
@@ -103,7 +103,7 @@ void judge_links(void)
     };
     static struct call call;
     for (size_t i = 0; i < sizeof rows / sizeof *rows; i++)
-        for (size_t k = 0; k < 5; k++) {
+        for (size_t k = 0; k < 6; k++) {
             const struct entry *entry = named(names[k]);
             lend(&call, entry);
             for (size_t f = 0; f < rows[i].faces; f++)
@@ -191,5 +191,9 @@ void judge_null(void)
             counts, NULL, 0, 7, NULL, 0, NULL, 0, 7, NULL, 0, 7, &response, 1, 7, NULL, 0, &index)
         || index)
         fail("a correction in one slice without a face: refused");
+    passed++;
+    index = SIZE_MAX;
+    if (juvandeer_face_distances(counts, NULL, 0, places, 4, 7, NULL, 0, NULL, 0, &index) || index)
+        fail("distances without a face: refused");
     passed++;
 }

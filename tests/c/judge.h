@@ -6,8 +6,8 @@
  * and outputs to it. */
 void judge_line(char *line);
 
-/* Every function of the library was called by a line: accepted, refused by a check, and refused by
- * arithmetic where it can be. */
+/* Every function of the library but juvandeer_face_distances was called by a line: accepted, refused by a
+ * check, and refused by arithmetic where it can be. */
 void judge_coverage(void);
 
 /* A line of crates/roots/stdin: a number and its root. */
@@ -23,6 +23,8 @@ void judge_counts(void);
 void judge_links(void);
 
 void judge_crowded(void);
+
+void judge_distances(void);
 
 void judge_payloads(void);
 

@@ -12,7 +12,7 @@ static const struct juvandeer_counts counts = {
 };
 
 static const size_t lengths[PARTS] = {
-    [ADJACENCY] = 14, [GEOMETRY] = 63, [HEADS] = 4, [PLACES] = 8, [FACING] = 16, [BORDERING] = 4,
+    [ADJACENCY] = 14, [GEOMETRY] = 77, [HEADS] = 4, [PLACES] = 8, [FACING] = 16, [BORDERING] = 4,
     [CODES] = 14, [VALUES] = 28, [STARTS] = 2, [EQUATIONS] = 14, [WEIGHTS] = 28, [INVERSES] = 18,
     [DIAGONAL] = 2, [RESPONSES] = 2, [PRESSURE] = 2, [VELOCITY] = 6, [GRADIENT] = 6, [WALLS] = 7,
     [PREDICTED] = 7, [COEFFICIENTS] = 7, [CORRECTION] = 2, [FLUX] = 7, [OUTFLOW] = 2, [METRICS] = 2,
@@ -31,13 +31,13 @@ static const size_t whole[PARTS][ROOM] = {
 
 static const double real[PARTS][ROOM] = {
     [GEOMETRY] = {
-        1.0, 0.5, 0.0,   1.0, 0.0, 0.0,   1.0, 0.0, 0.0,
-        0.0, 0.5, 0.0,  -1.0, 0.0, 0.0,  -1.0, 0.0, 0.0,
-        2.0, 0.5, 0.0,   1.0, 0.0, 0.0,   1.0, 0.0, 0.0,
-        0.5, 0.0, 0.0,   0.0, -1.0, 0.0,  0.0, -1.0, 0.0,
-        0.5, 1.0, 0.0,   0.0, 1.0, 0.0,   0.0, 1.0, 0.0,
-        1.5, 0.0, 0.0,   0.0, -1.0, 0.0,  0.0, -1.0, 0.0,
-        1.5, 1.0, 0.0,   0.0, 1.0, 0.0,   0.0, 1.0, 0.0
+        1.0, 0.5, 0.0,   1.0, 0.0, 0.0,   1.0, 0.0, 0.0,   0.5, 0.5,
+        0.0, 0.5, 0.0,  -1.0, 0.0, 0.0,  -1.0, 0.0, 0.0,   0.5, 0.5,
+        2.0, 0.5, 0.0,   1.0, 0.0, 0.0,   1.0, 0.0, 0.0,   0.5, 0.5,
+        0.5, 0.0, 0.0,   0.0, -1.0, 0.0,  0.0, -1.0, 0.0,  0.5, 0.0,
+        0.5, 1.0, 0.0,   0.0, 1.0, 0.0,   0.0, 1.0, 0.0,   0.5, 0.0,
+        1.5, 0.0, 0.0,   0.0, -1.0, 0.0,  0.0, -1.0, 0.0,  0.5, 0.0,
+        1.5, 1.0, 0.0,   0.0, 1.0, 0.0,   0.0, 1.0, 0.0,   0.5, 0.0
     },
     [PLACES] = {0.5, 0.5, 0.0, 1.0,  1.5, 0.5, 0.0, 1.0},
     [VALUES] = {

@@ -11,7 +11,7 @@
 
 enum { ACCEPTED, UNTOUCHED, CLEARED, ENDS };
 
-static int seen[ENTRIES][ENDS];
+static int seen[STORED][ENDS];
 
 /* One judgement: the line up to the answer, the function, the call before and after it was made, and its
  * answer. */
@@ -87,7 +87,8 @@ static void hold_groups(const struct made *made, const char *text)
 /* Whether a refusal is by shape or mesh, before arithmetic. */
 static int is_by_check(unsigned number)
 {
-    return number < JUVANDEER_DEGENERATE_DISTANCE || number == JUVANDEER_CROWDED_CELL;
+    return number < JUVANDEER_DEGENERATE_DISTANCE || number == JUVANDEER_CROWDED_CELL
+        || number == JUVANDEER_WRONG_DISTANCE;
 }
 
 static int hold_result(const struct made *made, const char *text)
@@ -119,10 +120,10 @@ static int hold_result(const struct made *made, const char *text)
 
 static int entry_of(const char *line, size_t length)
 {
-    for (int e = 0; e < ENTRIES; e++)
+    for (int e = 0; e < STORED; e++)
         if (strlen(entries[e].name) == length && !strncmp(entries[e].name, line, length))
             return e;
-    return ENTRIES;
+    return STORED;
 }
 
 void judge_line(char *line)
@@ -133,13 +134,13 @@ void judge_line(char *line)
         fail("no line on a call: %s", line);
     *text = '\0';
     int e = entry_of(line, (size_t)(name - line));
-    if (e == ENTRIES)
+    if (e == STORED)
         fail("%s: no call of this entry in tests/c/entries.c", line);
     made.line = line;
     made.entry = &entries[e];
     lend(&made.call, made.entry);
     if (!change(&made.call, made.entry->name, name + 2))
-        fail("%s: no change of this name in tests/c/change.c", line);
+        fail("%s: no change of this name in tests/c/change.c, or no distances after it", line);
     made.before = made.call;
     made.answer = made.entry->make(&made.call);
     seen[e][hold_result(&made, text + 2)] = 1;
@@ -148,7 +149,7 @@ void judge_line(char *line)
 
 void judge_coverage(void)
 {
-    for (int e = 0; e < ENTRIES; e++) {
+    for (int e = 0; e < STORED; e++) {
         if (!seen[e][ACCEPTED] || !seen[e][UNTOUCHED])
             fail("%s: no line with an accepted call, or none that a check refuses", entries[e].name);
         if (seen[e][CLEARED] != entries[e].clears)

@@ -58,6 +58,7 @@ int main(int count, char **arguments)
     judge_counts();
     judge_links();
     judge_crowded();
+    judge_distances();
     judge_payloads();
     judge_room();
     judge_null();

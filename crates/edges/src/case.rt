@@ -2,6 +2,7 @@
 use crate::change::Part;
 use mesh::{Conditions, Counts, Field, Mesh};
 use numerics::Stencil;
+use std::alloc::AllocError;
 
 // An entry is lent some of these; what it hands out is as long as what the case has by that name.
 #[derive(Clone, Copy)]
@@ -40,13 +41,13 @@ const SQUARES: Mesh<'static> = Mesh {
     },
     adjacency: &[0, 2, 0, 0, 1, 0, 0, 0, 0, 0, 1, 0, 1, 0],
     geometry: &[
-        1.0, 0.5, 0.0, 1.0, 0.0, 0.0, 1.0, 0.0, 0.0, // face 0
-        0.0, 0.5, 0.0, -1.0, 0.0, 0.0, -1.0, 0.0, 0.0, // face 1
-        2.0, 0.5, 0.0, 1.0, 0.0, 0.0, 1.0, 0.0, 0.0, // face 2
-        0.5, 0.0, 0.0, 0.0, -1.0, 0.0, 0.0, -1.0, 0.0, // face 3
-        0.5, 1.0, 0.0, 0.0, 1.0, 0.0, 0.0, 1.0, 0.0, // face 4
-        1.5, 0.0, 0.0, 0.0, -1.0, 0.0, 0.0, -1.0, 0.0, // face 5
-        1.5, 1.0, 0.0, 0.0, 1.0, 0.0, 0.0, 1.0, 0.0, // face 6
+        1.0, 0.5, 0.0, 1.0, 0.0, 0.0, 1.0, 0.0, 0.0, 0.5, 0.5, // face 0
+        0.0, 0.5, 0.0, -1.0, 0.0, 0.0, -1.0, 0.0, 0.0, 0.5, 0.5, // face 1
+        2.0, 0.5, 0.0, 1.0, 0.0, 0.0, 1.0, 0.0, 0.0, 0.5, 0.5, // face 2
+        0.5, 0.0, 0.0, 0.0, -1.0, 0.0, 0.0, -1.0, 0.0, 0.5, 0.0, // face 3
+        0.5, 1.0, 0.0, 0.0, 1.0, 0.0, 0.0, 1.0, 0.0, 0.5, 0.0, // face 4
+        1.5, 0.0, 0.0, 0.0, -1.0, 0.0, 0.0, -1.0, 0.0, 0.5, 0.0, // face 5
+        1.5, 1.0, 0.0, 0.0, 1.0, 0.0, 0.0, 1.0, 0.0, 0.5, 0.0, // face 6
     ],
     heads: &[1, 1, 5, 2],
     places: &[0.5, 0.5, 0.0, 1.0, 1.5, 0.5, 0.0, 1.0],
@@ -121,6 +122,21 @@ pub(crate) fn base<'a>() -> Case<'a> {
 }
 
 impl<'a> Case<'a> {
+    // Puts a copy of the geometry in its place, with the distances of each face made anew. Where that is refused, as it
+    // is in no case, they stay.
+    pub(crate) fn make_distances(&mut self, copy: &'a mut Vec<f64>) -> Result<(), AllocError> {
+        copy.extend_from_slice(self.mesh.geometry)?;
+        let _ = mesh::face_distances(
+            &self.mesh.grid().faces(),
+            self.mesh.places,
+            self.conditions.number,
+            self.conditions.codes,
+            copy,
+        );
+        self.mesh.geometry = copy;
+        Ok(())
+    }
+
     // The slice of whole numbers, or of floats, that a part is.
     pub(crate) fn whole_mut(&mut self, part: Part) -> Option<&mut &'a [usize]> {
         match part {

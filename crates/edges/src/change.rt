@@ -117,7 +117,12 @@ impl Change {
         Ok(())
     }
 
-    // Makes a call with the changed base.
+    // Whether a centre may be another.
+    fn moves(self) -> bool {
+        matches!(self, Change::Float(Part::Geometry | Part::Places, _, _))
+    }
+
+    // Makes a call with the changed base, whose distances are those of its centres.
     pub(crate) fn show<R: Print + AllocGlobal, F: Fn(&R, &Case<'_>) -> io::Result<()>>(
         self,
         rt: &R,
@@ -127,8 +132,12 @@ impl Change {
     {
         let mut whole = Vec::new(rt.alloc());
         let mut floats = Vec::new(rt.alloc());
+        let mut geometry = Vec::new(rt.alloc());
         let mut case = base();
         self.apply(&mut case, &mut whole, &mut floats)?;
+        if self.moves() {
+            case.make_distances(&mut geometry)?;
+        }
         call(rt, &case)
     }
 }

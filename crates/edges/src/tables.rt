@@ -41,7 +41,7 @@ pub const STENCIL: &[(&str, Change)] = &[
     ("link of face 4 to face 5", Whole(Codes, 9, 6)),
     ("room for 5 records", Records(5)),
     ("centre distance 2^-26", Float(Places, 4, NEAR)),
-    ("centre of face 3 its cell's", Float(Geometry, 28, 0.5)),
+    ("centre of face 3 its cell's", Float(Geometry, 34, 0.5)),
     ("no faces of cell 0 but 0 and 1", Whole(Facing, 3, 0)),
     ("no condition at face 3", Whole(Codes, 6, 0)),
 ];
@@ -73,7 +73,7 @@ pub const BOUNDARY: &[(&str, Change)] = &[
     ("as it stands", Nothing),
     (
         "centre of face 3 2^-27 from its cell's",
-        Float(Geometry, 28, BESIDE),
+        Float(Geometry, 34, BESIDE),
     ),
     ("code 1 at linked face 1", Whole(Codes, 2, 1)),
     ("dimension 4", Dimension(4)),
@@ -84,8 +84,8 @@ pub const BOUNDARY: &[(&str, Change)] = &[
     ("link of face 4 to face 5", Whole(Codes, 9, 6)),
     ("centre distance 2^-26", Float(Places, 4, NEAR)),
     ("response -1", Float(Responses, 0, -1.0)),
-    ("area of face 6 0", Float(Geometry, 58, 0.0)),
-    ("centre of face 3 its cell's", Float(Geometry, 28, 0.5)),
+    ("area of face 6 0", Float(Geometry, 70, 0.0)),
+    ("centre of face 3 its cell's", Float(Geometry, 34, 0.5)),
 ];
 
 // `simple::rhie_chow_predicted_flux`: 1 to 5, 7 and 9.
@@ -170,8 +170,8 @@ pub const STEP: &[(&str, Change)] = &[
     ("no condition at face 3", Whole(Codes, 6, 0)),
     ("response -1", Float(Responses, 0, -1.0)),
     ("area of face 0 1e308", Float(Geometry, 3, 1.0e308)),
-    ("area of face 6 0", Float(Geometry, 58, 0.0)),
-    ("area of face 3 1e308", Float(Geometry, 31, -1.0e308)),
+    ("area of face 6 0", Float(Geometry, 70, 0.0)),
+    ("area of face 3 1e308", Float(Geometry, 37, -1.0e308)),
     ("wall flux of face 4 1.7e308", Float(Walls, 4, 1.7e308)),
     ("volume of cell 1 0", Float(Places, 7, 0.0)),
 ];

@@ -4,7 +4,7 @@ use mesh::{Answer, Conditions, Counts, Mesh};
 use std::alloc::{AllocError, Global};
 
 // What is lent: a mesh, and the conditions with the number of their mesh. The small meshes have zeros for
-// floats, which no check reads.
+// floats: all centres are in one place, and every distance is right.
 #[derive(Clone, Drop)]
 pub struct Case {
     pub counts: Counts,
@@ -32,7 +32,7 @@ pub(crate) fn pair(alloc: Global) -> Result<Case, AllocError> {
             borderings: 2,
         },
         adjacency: vec![in alloc; 0, 2, 0, 0, 1, 0]?,
-        geometry: vec![in alloc; 0.0; 27]?,
+        geometry: vec![in alloc; 0.0; 33]?,
         heads: vec![in alloc; 1, 1, 3, 2]?,
         places: vec![in alloc; 0.0; 8]?,
         facing: vec![in alloc; 0, 2, 1, 0, 0, 4, 2, 0]?,
@@ -57,7 +57,7 @@ pub(crate) fn row(alloc: Global) -> Result<Case, AllocError> {
             borderings: 6,
         },
         adjacency: vec![in alloc; 0, 0, 0, 2, 1, 3, 2, 4, 3, 0, 2, 0]?,
-        geometry: vec![in alloc; 0.0; 54]?,
+        geometry: vec![in alloc; 0.0; 66]?,
         heads: vec![in alloc; 1, 1, 3, 2, 5, 4, 8, 6]?,
         places: vec![in alloc; 0.0; 16]?,
         facing: vec![in alloc; 0, 2, 1, 0, 1, 4, 2, 0, 2, 6, 3, 7, 5, 0, 3, 9, 4, 0]?,

@@ -49,6 +49,12 @@ pub enum Change {
     Borderings(u8),
     Cell(u8, usize),
     NextNeighbour(u8, usize),
+
+    // x of a face's centre and of a cell's, and a face's distances.
+    FaceCenter(u8, f64),
+    CellCenter(u8, f64),
+    Own(u8, f64),
+    Other(u8, f64),
 }
 
 impl Part {
@@ -72,6 +78,13 @@ fn set(pairs: &mut [usize], i: u8, member: usize, x: usize)
     requires { member < 2 }
 {
     if let Some(number) = pairs.get_mut(2 * usize::from(i) + member) {
+        *number = x;
+    }
+}
+
+// Makes number i of a slice x.
+fn place(floats: &mut [f64], i: usize, x: f64) {
+    if let Some(number) = floats.get_mut(i) {
         *number = x;
     }
 }
@@ -103,6 +116,10 @@ impl Change {
             Change::NextNeighbour(r, next) => {
                 set(&mut case.bordering, r.saturating_sub(1), 1, next)
             }
+            Change::FaceCenter(face, x) => place(&mut case.geometry, 11 * usize::from(face), x),
+            Change::CellCenter(cell, x) => place(&mut case.places, 4 * usize::from(cell), x),
+            Change::Own(face, x) => place(&mut case.geometry, 11 * usize::from(face) + 9, x),
+            Change::Other(face, x) => place(&mut case.geometry, 11 * usize::from(face) + 10, x),
         }
         Ok(())
     }

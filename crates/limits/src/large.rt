@@ -43,7 +43,7 @@ fn zeros(alloc: Global, counts: [u32; 4]) -> Result<Case, AllocError> {
             borderings,
         },
         adjacency: vec![in alloc; 0; 2 * faces]?,
-        geometry: vec![in alloc; 0.0; 9 * faces]?,
+        geometry: vec![in alloc; 0.0; 11 * faces]?,
         heads: vec![in alloc; 0; 2 * cells]?,
         places: vec![in alloc; 0.0; 4 * cells]?,
         facing: vec![in alloc; 0; 2 * facings]?,

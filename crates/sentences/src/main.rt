@@ -42,7 +42,7 @@ fn slices<R: Print + AllocGlobal>(rt: &R, number: u64, index: usize) -> io::Resu
 
 // The numbers of the table and those beside it, then those past it.
 fn main(rt: HostRuntime) -> io::Result<()> {
-    for number in (0..16).chain(FAR) {
+    for number in (0..22).chain(FAR) {
         for index in INDICES {
             slices(&rt, number, index)?;
         }

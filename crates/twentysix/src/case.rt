@@ -8,8 +8,8 @@ pub const HEAD_OF_26: usize = 5;
 
 pub const HEAD_OF_27: usize = 4;
 
-// What is lent: a mesh, and the conditions with the number of their mesh. The floats are zeros, which no check
-// reads.
+// What is lent: a mesh, and the conditions with the number of their mesh. The floats are zeros: all centres are in
+// one place, and every distance is right.
 #[derive(Drop)]
 pub struct Case {
     pub counts: Counts,
@@ -86,7 +86,7 @@ impl Case {
         for _ in 0..faces {
             self.adjacency
                 .extend_from_slice(&[usize::from(owner), stored])?;
-            self.geometry.extend_from_slice(&[0.0; 9])?;
+            self.geometry.extend_from_slice(&[0.0; 11])?;
             self.codes.extend_from_slice(&[0; 2])?;
             self.values.extend_from_slice(&[0.0; 4])?;
         }

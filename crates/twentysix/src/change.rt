@@ -25,6 +25,9 @@ pub enum Change {
     Code(u8, usize),
     Peer(u8, usize),
 
+    // A face's own distance.
+    Own(u16, f64),
+
     // The first records of a cell's chains. Records are counted from 1.
     FirstFace(u8, usize),
     FirstNeighbour(u8, usize),
@@ -58,6 +61,11 @@ impl Change {
             Change::Counted(n) => case.counts.faces = n,
             Change::Code(face, code) => set(&mut case.codes, face, 0, code),
             Change::Peer(face, stored) => set(&mut case.codes, face, 1, stored),
+            Change::Own(face, x) => {
+                if let Some(number) = case.geometry.get_mut(11 * usize::from(face) + 9) {
+                    *number = x;
+                }
+            }
             Change::FirstFace(cell, r) => set(&mut case.heads, cell, 0, r),
             Change::FirstNeighbour(cell, r) => set(&mut case.heads, cell, 1, r),
             Change::Face(r, face) => set(&mut case.facing, r.saturating_sub(1), 0, face),

@@ -2,7 +2,7 @@
 use crate::case::{HEAD_OF_26, HEAD_OF_27};
 use crate::change::Change::{
     self, Between, Code, Counted, Dimension, Face, FirstFace, FirstNeighbour, NextFace, Number, Of,
-    Peer,
+    Own, Peer,
 };
 
 pub const CASES: &[(&str, &[Change])] = &[
@@ -103,5 +103,18 @@ pub const CASES: &[(&str, &[Change])] = &[
     (
         "26 faces of cell 0, faces 0 and 1 linked",
         &[Of(26, 0), Peer(0, 2), Peer(1, 1)],
+    ),
+    // Wrong distances.
+    (
+        "27 faces of cell 0, own distance of face 0 1",
+        &[Of(27, 0), Own(0, 1.0)],
+    ),
+    (
+        "27 records of cell 2, own distance of face 0 1",
+        &[Of(1, 0), FirstFace(2, HEAD_OF_27), Own(0, 1.0)],
+    ),
+    (
+        "26 faces and 26 records of cell 0, own distance of the last face 1",
+        &[Of(26, 0), FirstFace(0, HEAD_OF_26), Own(25, 1.0)],
     ),
 ];

@@ -1,6 +1,6 @@
-// Calls of every entry that is lent a mesh or its fields, but the one that makes the distances. Writes a line for each case: the entry, the case's
-// name, a colon, the answer, and the outputs. The lines in the crate's file `stdout` were made by `oracle
-// edges` from the Rust; none was taken from a run.
+// Calls of every entry that is lent a mesh or its fields, but the one that makes the distances. Writes a line for
+// each case: the entry, the case's name, a colon, the answer, and the outputs. The lines in the crate's file
+// `stdout` were made by `oracle edges` from the Rust; none was taken from a run.
 #![tactic(auto)]
 
 use case::Case;

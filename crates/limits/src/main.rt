@@ -1,6 +1,6 @@
 // The refusals 1 to 6 and 20 of `mesh::Mesh::check` at their limits; 14 comes only where a cell has all faces or
-// records of the largest counts, and `twentysix` has it at its limit. Writes a line for each case: its name, a colon, and
-// the answer. The lines in the crate's file `stdout` were written by hand from documents 01 and 02; none
+// records of the largest counts, and `twentysix` has it at its limit. Writes a line for each case: its name, a
+// colon, and the answer. The lines in the crate's file `stdout` were written by hand from documents 01 and 02; none
 // was taken from a run. A small case starts from an accepted mesh, and changes only what its name says.
 #![tactic(auto)]
 

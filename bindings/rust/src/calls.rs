@@ -89,7 +89,7 @@ impl Mesh {
         ffi::least_squares_stencil(
             self.counts(),
             self.adjacency(),
-            self.geometry(),
+            self.geometry_under(conditions),
             self.heads(),
             self.places(),
             self.facing(),
@@ -165,7 +165,7 @@ impl Mesh {
         ffi::pressure_face_coefficients_with_boundary(
             self.counts(),
             self.adjacency(),
-            self.geometry(),
+            self.geometry_under(conditions),
             self.places(),
             conditions.number,
             &conditions.codes,

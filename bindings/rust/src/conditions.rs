@@ -2,6 +2,7 @@
 
 use crate::error::BuildError;
 use crate::mesh::{Mesh, Vec3};
+use std::sync::OnceLock;
 
 /// The condition of a face. It counts at faces with one cell and no link.
 #[derive(Clone, Copy, Debug, PartialEq)]
@@ -32,13 +33,22 @@ impl Condition {
 }
 
 /// A condition for each face, and links between pairs of faces.
-#[derive(Clone, Debug, PartialEq)]
+#[derive(Clone, Debug)]
 pub struct Conditions {
     pub(crate) number: u64,
     /// Per face: code, peer + 1.
     pub(crate) codes: Vec<usize>,
     /// Per face: fixed value, translation.
     pub(crate) values: Vec<f64>,
+    /// The geometry of the mesh with the distances of these links, from the first call that is lent it; none
+    /// where there is no link, and the mesh's own is lent.
+    pub(crate) linked: Option<OnceLock<Vec<f64>>>,
+}
+
+impl PartialEq for Conditions {
+    fn eq(&self, other: &Self) -> bool {
+        self.number == other.number && self.codes == other.codes && self.values == other.values
+    }
 }
 
 impl Conditions {
@@ -67,6 +77,7 @@ impl Conditions {
                 .iter()
                 .flat_map(|c| [c.value(), 0.0, 0.0, 0.0])
                 .collect(),
+            linked: None,
         }
     }
 
@@ -99,6 +110,7 @@ impl Conditions {
         self.check(peer)?;
         self.set_link(face, peer, translation);
         self.set_link(peer, face, translation.map(|x| -x));
+        self.linked = Some(OnceLock::new());
         Ok(self)
     }
 

@@ -89,6 +89,9 @@ macro_rules! functions {
 }
 
 functions! {
+    face_distances = juvandeer_face_distances(
+        adjacency: usize, places: f64, [number], codes: usize => geometry: f64
+    );
     momentum_inverse_diagonal = juvandeer_momentum_inverse_diagonal(diagonal: f64 => out: f64);
     least_squares_stencil = juvandeer_least_squares_stencil(
         adjacency: usize, geometry: f64, heads: usize, places: f64, facing: usize, bordering: usize,

@@ -48,6 +48,7 @@ pub mod balance;
 mod calls;
 mod chains;
 mod conditions;
+mod distances;
 mod error;
 #[allow(unsafe_code)]
 mod ffi;
@@ -61,6 +62,7 @@ mod whole;
 
 pub use calls::{root, Continuity, Metrics, Prediction};
 pub use conditions::{Condition, Conditions};
+pub use distances::Distances;
 pub use error::BuildError;
 pub use fields::{CellField, FaceField, VectorField};
 pub use mesh::{Cell, Dimension, Face, Mesh, Vec3};

@@ -1,6 +1,7 @@
 //! The mesh in the form in which it is lent to the engine.
 
 use crate::chains::{self, Chains};
+use crate::distances::FACE_NUMBERS;
 use crate::error::BuildError;
 use crate::ffi::Counts;
 use std::sync::atomic::{AtomicU64, Ordering};
@@ -62,15 +63,17 @@ pub struct Mesh {
     number: u64,
     dimension: Dimension,
     adjacency: Vec<usize>,
-    geometry: Vec<f64>,
+    /// With the distances of a mesh without links.
+    pub(crate) geometry: Vec<f64>,
     places: Vec<f64>,
     chains: Chains,
     room: usize,
 }
 
 impl Mesh {
-    /// A mesh from its faces and cells. Areas, normals, centres and volumes are taken as they are. The chain of
-    /// a cell's faces is in the order of `faces`, that of its neighbours in the order of the cells, each once.
+    /// A mesh from its faces and cells. Areas, normals, centres and volumes are taken as they are; the distances
+    /// that each face carries are the engine's, [`Mesh::face_distances`]. The chain of a cell's faces is in the
+    /// order of `faces`, that of its neighbours in the order of the cells, each once.
     ///
     /// A mesh with no cell, or with more cells or faces than the engine takes, is built: every call with it is
     /// refused with 1. So is one with more than 26 faces to a cell: every call that looks at faces is refused
@@ -85,7 +88,7 @@ impl Mesh {
         cells: &[Cell],
     ) -> Result<Self, BuildError> {
         let mut adjacency = Vec::with_capacity(2 * faces.len());
-        let mut geometry = Vec::with_capacity(9 * faces.len());
+        let mut geometry = Vec::with_capacity(FACE_NUMBERS * faces.len());
         for (face, record) in faces.iter().enumerate() {
             check_cells(face, record.owner, record.neighbour, cells.len())?;
             adjacency.push(record.owner);
@@ -93,6 +96,7 @@ impl Mesh {
             geometry.extend(record.center);
             geometry.extend(record.area_vector);
             geometry.extend(record.normal);
+            geometry.extend([0.0; 2]);
         }
         let mut places = Vec::with_capacity(4 * cells.len());
         for cell in cells {
@@ -101,7 +105,7 @@ impl Mesh {
         }
         let facing = chains::faces_of_cells(&adjacency, cells.len());
         let bordering = chains::neighbours_of_cells(&adjacency, cells.len());
-        Ok(Self {
+        let mut mesh = Self {
             number: next_number(),
             dimension,
             room: chains::room(dimension, &facing, &bordering),
@@ -109,7 +113,9 @@ impl Mesh {
             adjacency,
             geometry,
             places,
-        })
+        };
+        mesh.geometry = mesh.geometry_with(&vec![0; 2 * faces.len()]);
+        Ok(mesh)
     }
 
     /// The same mesh with another order of each cell's faces, in which the stencil takes its equations and
@@ -166,7 +172,7 @@ impl Mesh {
         let [owner, neighbour] = *self.adjacency.chunks_exact(2).nth(face)? else {
             return None;
         };
-        let geometry = self.geometry.chunks_exact(9).nth(face)?;
+        let geometry = self.geometry.chunks_exact(FACE_NUMBERS).nth(face)?;
         Some(Face {
             owner,
             neighbour: neighbour.checked_sub(1),
@@ -197,7 +203,8 @@ impl Mesh {
         &self.adjacency
     }
 
-    /// Per face: centre, area vector, normal, three numbers each.
+    /// Per face: centre, area vector, normal, three numbers each; own and other distance, as they are without
+    /// links, +0.0 where the engine refuses the mesh with 1 or 14. [`Mesh::geometry_under`] has those with links.
     pub fn geometry(&self) -> &[f64] {
         &self.geometry
     }

@@ -38,12 +38,14 @@ pub enum RefusalKind {
     InvalidCellMeasure,
     /// 14: a cell has more than 26 faces, or more than 26 records in its chain of faces.
     CrowdedCell,
+    /// 20: a distance that a face carries is not, bit for bit, the one that the geometry gives.
+    WrongDistance,
     /// A number that these bindings do not know.
     Other(u64),
 }
 
 /// The numbers in use and their kinds.
-const KINDS: [(u64, RefusalKind); 13] = [
+const KINDS: [(u64, RefusalKind); 14] = [
     (1, RefusalKind::Size),
     (2, RefusalKind::Length),
     (3, RefusalKind::MeshMismatch),
@@ -57,6 +59,7 @@ const KINDS: [(u64, RefusalKind); 13] = [
     (11, RefusalKind::InvalidMomentumDiagonal),
     (12, RefusalKind::InvalidCellMeasure),
     (14, RefusalKind::CrowdedCell),
+    (20, RefusalKind::WrongDistance),
 ];
 
 impl RefusalKind {
@@ -83,7 +86,7 @@ impl RefusalKind {
 pub struct Refusal {
     /// Why.
     pub kind: RefusalKind,
-    /// The face or cell, as the kind says, for 4, 5, 6 and 14 the lowest such one; 0 where none is named.
+    /// The face or cell, as the kind says, for 4, 5, 6, 14 and 20 the lowest such one; 0 where none is named.
     pub index: usize,
 }
 
@@ -131,6 +134,7 @@ impl Refusal {
             RefusalKind::InvalidMomentumDiagonal => format!("cell {index} has a momentum diagonal or response that is not finite or not above 0, or a velocity that is not finite"),
             RefusalKind::InvalidCellMeasure => format!("cell {index} has a volume that is not finite or not above 0"),
             RefusalKind::CrowdedCell => format!("cell {index} has more than 26 faces"),
+            RefusalKind::WrongDistance => format!("face {index} carries a distance that is not, bit for bit, the one that the geometry gives"),
             RefusalKind::Other(number) => format!("{number} is a number that these bindings do not know"),
         }
     }

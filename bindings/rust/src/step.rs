@@ -79,7 +79,7 @@ impl Mesh {
         ffi::step(
             self.counts(),
             self.adjacency(),
-            self.geometry(),
+            self.geometry_under(input.conditions),
             self.heads(),
             self.places(),
             self.facing(),

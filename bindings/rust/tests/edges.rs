@@ -178,6 +178,16 @@ fn check(entry: &str, case: &str, change: impl FnOnce(&mut Base)) {
     assert_eq!(call(&base.made()), expected(entry, case), "{entry}, {case}");
 }
 
+/// The distances that the stored lines were made with.
+#[test]
+fn the_base_has_its_distances() {
+    let made = base().made();
+    let distances = made.mesh.face_distances(&made.conditions).unwrap();
+    assert_eq!(distances.own.values(), [0.5; 7]);
+    let other = [0.5, 0.5, 0.5, 0.0, 0.0, 0.0, 0.0];
+    assert_eq!(floats(distances.other.values()), floats(&other));
+}
+
 #[test]
 fn every_entry_gives_the_stored_bits() {
     for (entry, call) in ENTRIES {

@@ -2,7 +2,8 @@
 //!
 //! 4 cannot be met: a mesh is not built of a face that names a missing cell or has its owner as neighbour, and
 //! `Condition` has no unknown code. 5 cannot be met by a mesh, whose chains the bindings make, nor by a stencil
-//! that the engine made; a stencil from kept slices can be broken.
+//! that the engine made; a stencil from kept slices can be broken. 20 cannot be met, since the engine made the
+//! distances that are lent; `src/distances/tests.rs` has calls with others.
 
 mod common;
 
@@ -62,6 +63,7 @@ fn mesh_mismatch_3() {
     let boundary = |c, r| mesh.pressure_face_coefficients_with_boundary(c, r);
     let velocity = |v, r, g| mesh.correct_cell_velocity_from_gradient(v, r, g);
     let answers = [
+        refused(mesh.face_distances(&b.conditions)),
         refused(mesh.least_squares_stencil(&b.conditions)),
         refused(mesh.least_squares_gradient(&b.stencil, &a.pressure)),
         refused(mesh.least_squares_gradient(&a.stencil, &b.pressure)),
@@ -74,7 +76,7 @@ fn mesh_mismatch_3() {
         refused(mesh.integrated_divergence(&b.flux)),
         refused(mesh.continuity_metrics(&b.flux)),
     ];
-    assert_eq!(answers, [(3, 0); 11]);
+    assert_eq!(answers, [(3, 0); 12]);
 }
 
 #[test]
@@ -191,13 +193,14 @@ fn lowest_bad_link_6() {
         let (mesh, c) = (&made.mesh, &made.conditions);
         let (p, k, x) = (&made.predicted, &made.coefficients, &made.correction);
         let answers = [
+            refused(mesh.face_distances(c)),
             refused(mesh.least_squares_stencil(c)),
             refused(mesh.pressure_face_coefficients_with_boundary(c, &made.responses)),
             refused(mesh.correct_face_flux_with_boundary(c, p, k, x)),
             refused(mesh.correct_face_flux_in_place(c, k, x, &mut p.clone())),
             refused(mesh.step(made.step_input())),
         ];
-        assert_eq!(answers, [answers[0]; 5]);
+        assert_eq!(answers, [answers[0]; 6]);
         answers[0]
     };
     // 1 and 2 stay linked well
@@ -210,7 +213,7 @@ fn lowest_bad_link_6() {
 
 /// What the calls answer on the base with so many faces more of cell 1, which has four: first those that look at
 /// faces, then those that do not. The faces have a zero gradient and fields of 0.
-fn with_faces(more: usize, spoil: fn(&mut Made)) -> ([Answer; 9], [Answer; 3]) {
+fn with_faces(more: usize, spoil: fn(&mut Made)) -> ([Answer; 10], [Answer; 3]) {
     let mut crowd = base();
     crowd.faces.extend(vec![crowd.faces[5]; more]);
     crowd.conditions.extend(vec![Condition::ZeroGradient; more]);
@@ -242,6 +245,7 @@ fn with_faces(more: usize, spoil: fn(&mut Made)) -> ([Answer; 9], [Answer; 3]) {
         answer(mesh.integrated_divergence(&made.flux)),
         answer(mesh.continuity_metrics(&made.flux)),
         answer(mesh.step(made.step_input())),
+        answer(mesh.face_distances(c)),
     ];
     let of_others = [
         answer(mesh.momentum_inverse_diagonal(&made.diagonal)),
@@ -263,8 +267,8 @@ fn answer<T>(answer: Result<T, Refusal>) -> Answer {
 
 #[test]
 fn crowded_cell_14() {
-    assert_eq!(with_faces(22, |_| ()), ([Ok(()); 9], [Ok(()); 3]));
-    assert_eq!(with_faces(23, |_| ()), ([Err((14, 1)); 9], [Ok(()); 3]));
+    assert_eq!(with_faces(22, |_| ()), ([Ok(()); 10], [Ok(()); 3]));
+    assert_eq!(with_faces(23, |_| ()), ([Err((14, 1)); 10], [Ok(()); 3]));
 }
 
 /// 14 comes before 6 and after 5.
@@ -274,10 +278,10 @@ fn crowded_cell_14_in_its_place() {
         made.conditions.link(4, 4, [1.0, 0.0, 0.0]).unwrap();
     };
     let (of_faces, _) = with_faces(22, bad_link);
-    let linked = [0, 2, 4, 5, 8].map(|call| of_faces[call]);
-    assert_eq!(linked, [Err((6, 4)); 5]);
+    let linked = [0, 2, 4, 5, 8, 9].map(|call| of_faces[call]);
+    assert_eq!(linked, [Err((6, 4)); 6]);
     let (of_faces, _) = with_faces(23, bad_link);
-    assert_eq!(of_faces, [Err((14, 1)); 9]);
+    assert_eq!(of_faces, [Err((14, 1)); 10]);
     let broken_chain = |made: &mut Made| {
         let kept = &made.stencil;
         made.stencil = Stencil::from_slices(
@@ -375,13 +379,17 @@ fn conditions_are_lent_as_the_header_says() {
 
 #[test]
 fn numbers_kinds_and_reasons_fit() {
-    for number in 0..20 {
+    for number in 0..30 {
         assert_eq!(RefusalKind::from_number(number).number(), number);
     }
-    assert_eq!(RefusalKind::from_number(13), RefusalKind::Other(13));
+    for number in [0, 13, 15, 19, 21] {
+        let kind = RefusalKind::from_number(number);
+        assert_eq!(kind, RefusalKind::Other(number));
+    }
     assert_eq!(RefusalKind::from_number(14), RefusalKind::CrowdedCell);
+    assert_eq!(RefusalKind::from_number(20), RefusalKind::WrongDistance);
     let at = |number| Refusal::new(number, 17).reason();
-    for number in [4, 6, 7, 9, 10] {
+    for number in [4, 6, 7, 9, 10, 20] {
         assert!(at(number).starts_with("face 17 "));
     }
     for number in [5, 8, 11, 12, 14] {
@@ -415,5 +423,5 @@ fn sentences_are_the_stored_ones() {
             told += 1;
         }
     }
-    assert_eq!(told, 13 * 4);
+    assert_eq!(told, 14 * 4);
 }

@@ -184,6 +184,26 @@ fn a_normal_is_worked_out() {
     assert_eq!(read.mesh.face(2).unwrap().normal, [-0.6, 0.8, 0.0]);
 }
 
+/// The distances of a face are not written: they are those of the centres, (3, 4) apart at face 2, and of links.
+#[test]
+fn distances_are_worked_out() {
+    let (linked, _) = changed(
+        &step_sheet(),
+        "1 -  2 0.5    1 0    1 0",
+        "1 -  4.5 4.5    1 0",
+    );
+    let alone = linked.replace("links\n1 2  2 0\n", "");
+    assert_ne!(alone, linked);
+    for (text, beyond) in [(linked, [5.0, 0.5]), (alone, [0.0, 0.0])] {
+        let read = sheet::Sheet::read(text.as_bytes()).unwrap();
+        let distances = read.mesh.face_distances(&read.conditions).unwrap();
+        let own = [0.5, 0.5, 5.0, 0.5, 0.5, 0.5, 0.5];
+        assert_eq!(distances.own.values(), own);
+        let other = [0.5, beyond[0], beyond[1], 0.0, 0.0, 0.0, 0.0];
+        assert_eq!(distances.other.values(), other);
+    }
+}
+
 #[test]
 fn geometry_from_points_is_the_geometry_given() {
     let folder = common::own("polymesh/two-cubes");

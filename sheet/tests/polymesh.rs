@@ -113,6 +113,10 @@ fn two_cubes_are_joined_and_linked() {
         [1, 2, 3].map(|face| sheet.conditions.peer(face)),
         [Some(2), Some(1), None]
     );
+    let distances = mesh.face_distances(&sheet.conditions).unwrap();
+    assert_eq!(distances.own.values(), [0.5; 11]);
+    let other = [0.5, 0.5, 0.5, 0.0, 0.0, 0.0, 0.0, 0.0, 0.0, 0.0, 0.0];
+    assert_eq!(distances.other.values(), other);
     let text = imported("two-cubes");
     assert!(text.contains("\n1 2  2 0 0\n"));
     assert!(text.contains("\n3-10  zero-gradient\n"));

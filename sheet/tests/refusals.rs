@@ -5,7 +5,9 @@ mod common;
 use common::{
     changed, correction_sheet, listed, printed, step_sheet, text, told, CUBES, NOT_MET, NUMBERS,
 };
-use sheet::Sheet;
+use engine::Refusal;
+use sheet::run::Refused;
+use sheet::{report, Sheet};
 
 /// A sheet without a cell.
 const EMPTY: &str = "form correction\ndimension 2\nfaces\ncells\npredicted-flux\nface-coefficient\npressure-correction\n";
@@ -185,6 +187,30 @@ fn every_number_is_met_or_cannot_be() {
             .any(|(_, lines)| lines[1].starts_with(&start));
         assert_ne!(met, NOT_MET.contains(&number), "{number}");
     }
+}
+
+/// What would be printed of a refusal by a step.
+fn of_a_step(number: u64, index: usize) -> String {
+    report::refusal(&Refused {
+        by: "step",
+        refusal: Refusal::new(number, index),
+    })
+}
+
+#[test]
+fn where_no_sheet_meets_it_the_sheet_is_to_be_kept() {
+    let advice = "no sheet is known that meets this: keep the sheet and report it\n";
+    for number in NUMBERS {
+        let printed = of_a_step(number, 3);
+        assert_eq!(
+            printed.ends_with(advice),
+            NOT_MET.contains(&number),
+            "{number}"
+        );
+    }
+    let lines = "refusal 20 at 3.\nrefusal 20 index 3 by step\n\
+        face 3 carries a distance that is not, bit for bit, the one that the geometry gives\n";
+    assert_eq!(of_a_step(20, 3), format!("{lines}{advice}"));
 }
 
 #[test]

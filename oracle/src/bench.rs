@@ -4,7 +4,7 @@ use crate::calls::{self, Outcome};
 use crate::cases;
 use crate::compare::patterned;
 use crate::entry::{Entry, Part};
-use crate::lent::Lent;
+use crate::lent::{Lent, FACE_WIDTH, OWN};
 use crate::makers::{self, Walls};
 use crate::port::{Answer, Port};
 use crate::random::Random;
@@ -26,7 +26,8 @@ pub fn run(port: &Port) {
     println!(
         "\nns per face. The Rust allocates its outputs in each call; the port's are lent and hold what its\n\
          last call left, nothing clears them before. The correction in one slice is repeated on what it left,\n\
-         and beside it stands the Rust's only correction."
+         and beside it stands the Rust's only correction. Beside face_distances stand the two norms of each\n\
+         face by the Rust's Vec3."
     );
     for (name, made) in meshes() {
         let lent = ordinary(&made);
@@ -69,7 +70,8 @@ fn corrections(port: &Port) {
     }
 }
 
-/// The checks by themselves: calls that the last of them, 6, refuses at the highest face with one cell.
+/// The checks by themselves: calls that the last of them refuses, 6 at the highest face with one cell, 20 at the
+/// last face.
 fn checks(port: &Port) {
     let (some, all) = (
         Entry::CorrectFaceFluxWithBoundary,
@@ -83,17 +85,26 @@ fn checks(port: &Port) {
         "adjacency with links", "all"
     );
     for (name, made) in meshes() {
-        let mut lent = ordinary(&made);
-        let mut faces = (0..lent.counts.faces).rev();
-        let face = faces.find(|&face| lent.slices.adjacency[2 * face + 1] == 0);
+        let good = ordinary(&made);
+        let mut bad_link = good.clone();
+        let mut faces = (0..good.counts.faces).rev();
+        let face = faces.find(|&face| good.slices.adjacency[2 * face + 1] == 0);
         let face = face.expect("a face with one cell");
-        lent.slices.codes[2 * face + 1] = face + 1;
-        let refused = Answer::Refused(6, face);
-        let (mut first, mut second) = (patterned(some, &lent), patterned(all, &lent));
-        let mut linked = || assert_eq!(links(black_box(&lent), &mut first), refused);
-        let mut every = || assert_eq!(whole(black_box(&lent), &mut second), refused);
+        bad_link.slices.codes[2 * face + 1] = face + 1;
+        let mut wrong_distance = good.clone();
+        let last = good.counts.faces - 1;
+        wrong_distance.slices.geometry[FACE_WIDTH * last + OWN] = 0.0;
+        let (mut first, mut second) = (patterned(some, &good), patterned(all, &good));
+        let mut linked = || {
+            let answer = links(black_box(&bad_link), &mut first);
+            assert_eq!(answer, Answer::Refused(6, face));
+        };
+        let mut every = || {
+            let answer = whole(black_box(&wrong_distance), &mut second);
+            assert_eq!(answer, Answer::Refused(20, last));
+        };
         let times = least([&mut linked, &mut every]);
-        let [some, all] = times.map(|time| time / lent.counts.faces as f64);
+        let [some, all] = times.map(|time| time / good.counts.faces as f64);
         println!("{name:28} {some:22.2} {all:10.2}");
     }
 }
@@ -289,6 +300,13 @@ fn rust_call(entry: Entry, lent: &Lent) -> Box<dyn FnMut()> {
             black_box(flursys::integrated_divergence(&mesh, &flux).is_ok());
             black_box(continuity_metrics(&mesh, &flux).is_ok());
         }),
+        Entry::FaceDistances => {
+            let mut geometry = lent.slices.geometry.clone();
+            Box::new(move || {
+                calls::write_distances(black_box(&mesh), &conditions, &mut geometry);
+                black_box(&geometry);
+            })
+        }
     }
 }
 

@@ -5,7 +5,7 @@ mod counting;
 pub use counting::{counts_agree, equation_counts};
 
 use crate::entry::{Entry, Part};
-use crate::lent::{export_stencil, three, Lent, SliceMut, Slices};
+use crate::lent::{distances, export_stencil, three, Lent, SliceMut, Slices, FACE_WIDTH, OWN};
 use flursys::simple::access::continuity_metrics;
 use flursys::{
     correct_cell_velocity_from_gradient, correct_face_flux_with_boundary, fields,
@@ -75,6 +75,7 @@ pub fn is_copied(entry: Entry, part: Part, at: usize, lent: &Lent) -> bool {
     match (entry, part) {
         (_, Part::Weights) => at % 4 == 3,
         (Entry::CorrectFaceFluxInPlace, Part::Predicted) => kept(at),
+        (Entry::FaceDistances, Part::Geometry) => at % FACE_WIDTH < OWN,
         (_, Part::Predicted) => one_cell(at),
         (Entry::CorrectFaceFluxWithBoundary | Entry::Step, Part::Flux) => kept(at),
         _ => false,
@@ -100,6 +101,7 @@ pub fn run(entry: Entry, lent: &Lent) -> Outcome {
         Entry::ContinuityMetrics => metrics(lent),
         Entry::Step => step(lent),
         Entry::CorrectFaceFluxInPlace => corrected_in_place(lent),
+        Entry::FaceDistances => Ok(with_distances(lent)),
     };
     match result {
         Ok(outputs) => Outcome::Accepted(Box::new(outputs)),
@@ -199,6 +201,27 @@ fn corrected_in_place(lent: &Lent) -> Result<Slices, Refused> {
         predicted: corrected.flux,
         ..Slices::default()
     })
+}
+
+/// The geometry with the distances of the Rust's mesh in their places.
+fn with_distances(lent: &Lent) -> Slices {
+    let mut geometry = lent.slices.geometry.clone();
+    write_distances(&lent.mesh(), &lent.conditions(), &mut geometry);
+    Slices {
+        geometry,
+        ..Slices::default()
+    }
+}
+
+/// Writes both distances of every face into a geometry.
+pub fn write_distances(
+    mesh: &UnstructuredMesh,
+    conditions: &ResolvedScalarBoundaryConditions,
+    geometry: &mut [f64],
+) {
+    for (face, record) in geometry.chunks_exact_mut(FACE_WIDTH).enumerate() {
+        record[OWN..].copy_from_slice(&distances(mesh, conditions, face));
+    }
 }
 
 fn corrected_velocity(lent: &Lent) -> Result<Slices, Refused> {

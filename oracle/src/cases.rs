@@ -3,7 +3,7 @@
 use crate::calls::{self, Outcome};
 use crate::checks::LIMIT;
 use crate::entry::{Entry, Part};
-use crate::lent::{export_stencil, Lent, Slices};
+use crate::lent::{export_stencil, Lent, Slices, FACE_WIDTH, OWN};
 use crate::makers::{self, Made, Style, Walls, WALLS};
 use crate::random::Random;
 use flursys::LeastSquaresGradientStencil;
@@ -176,7 +176,7 @@ fn give_parts(lent: &mut Lent) {
 
 impl Case {
     /// What is lent to an entry. One that builds a stencil is lent just enough records, some more, or
-    /// fewer.
+    /// fewer; one that makes the distances has numbers of every kind in their places.
     pub fn lent_to(&self, random: &mut Random, entry: Entry) -> Lent {
         let mut lent = self.lent.clone();
         if entry.outputs().contains(&Part::Starts) {
@@ -188,6 +188,11 @@ impl Case {
                 _ => enough,
             }
             .min(LIMIT);
+        }
+        if entry.outputs().contains(&Part::Geometry) {
+            for record in lent.slices.geometry.chunks_exact_mut(FACE_WIDTH) {
+                record[OWN..].fill_with(|| makers::float(random, Style::Wild));
+            }
         }
         lent
     }

@@ -1,5 +1,5 @@
-//! A model, written from documents 01 and 02, of the refusals that the port adds before arithmetic: 1 to 6
-//! and 14, which comes after 5 and before 6.
+//! A model, written from documents 01 and 02, of the refusals that the port adds before arithmetic: 1 to 6,
+//! 14, which comes after 5 and before 6, and 20, which comes last.
 //!
 //! An entry makes only the checks of what it is lent. The counts are lent as one record, so 1 looks at
 //! all of them; at the number of equation records where a stencil is lent or handed out. Outputs are
@@ -7,7 +7,7 @@
 
 use crate::calls::{Place, Refusal};
 use crate::entry::{Entry, Part};
-use crate::lent::{Lent, Slices};
+use crate::lent::{Lent, Slices, FACE_WIDTH, OTHER, OWN};
 
 /// Most cells, faces or chain entries.
 pub const LIMIT: usize = 65_535;
@@ -17,7 +17,23 @@ pub const MOST: usize = 26;
 
 /// The first refusal before arithmetic, if any.
 pub fn check(entry: Entry, lent: &Lent, outputs: &Slices) -> Option<Refusal> {
+    before_distances(entry, lent, outputs).or_else(|| {
+        let wrong = wrong_distances(entry, lent);
+        wrong.first().map(|&face| of_mesh(20, face))
+    })
+}
+
+/// The first refusal before 20, if any.
+pub fn before_distances(entry: Entry, lent: &Lent, outputs: &Slices) -> Option<Refusal> {
     shape(entry, lent, outputs).or_else(|| mesh(entry, lent))
+}
+
+fn of_mesh(number: u64, index: usize) -> Refusal {
+    Refusal {
+        place: Place::Mesh,
+        number,
+        index,
+    }
 }
 
 fn shape(entry: Entry, lent: &Lent, outputs: &Slices) -> Option<Refusal> {
@@ -58,13 +74,7 @@ fn has_bad_size(entry: Entry, lent: &Lent) -> bool {
 }
 
 fn mesh(entry: Entry, lent: &Lent) -> Option<Refusal> {
-    let refusal = |number, index| {
-        Some(Refusal {
-            place: Place::Mesh,
-            number,
-            index,
-        })
-    };
+    let refusal = |number, index| Some(of_mesh(number, index));
     let mut faces = 0..lent.counts.faces;
     if let Some(face) = faces.find(|&face| is_bad_face(entry, lent, face)) {
         return refusal(4, face);
@@ -195,4 +205,57 @@ pub fn bad_links(lent: &Lent) -> Vec<usize> {
                 || peer(linked - 1) != face + 1)
     };
     (0..faces).filter(is_bad).collect()
+}
+
+/// Every face with a stored distance that is not the one that the geometry gives; the lowest first. What is lent
+/// has passed the checks of shape.
+pub fn wrong_distances(entry: Entry, lent: &Lent) -> Vec<usize> {
+    if !entry.checks_distances() {
+        return Vec::new();
+    }
+    let mut faces = Vec::new();
+    for face in 0..lent.counts.faces {
+        if wrong_sides(entry, lent, face).contains(&true) {
+            faces.push(face);
+        }
+    }
+    faces
+}
+
+/// Whether a face's distance to its owner is wrong, and whether the one on its other side is.
+pub fn wrong_sides(entry: Entry, lent: &Lent, face: usize) -> [bool; 2] {
+    let stored = stored_distances(lent, face);
+    let given = distances(lent, face);
+    let is_seen = [true, sees_other_side(entry, lent, face)];
+    [0, 1].map(|side| is_seen[side] && given[side].is_some_and(|given| !agree(stored[side], given)))
+}
+
+pub fn stored_distances(lent: &Lent, face: usize) -> [f64; 2] {
+    [OWN, OTHER].map(|place| lent.slices.geometry[FACE_WIDTH * face + place])
+}
+
+/// Whether the distance on a face's other side is looked at: at a face with one cell it may be that of a link, so
+/// that links have to be lent.
+pub fn sees_other_side(entry: Entry, lent: &Lent, face: usize) -> bool {
+    entry.lends(Part::Codes) || lent.slices.adjacency[2 * face + 1] != 0
+}
+
+/// The distances that the geometry gives a face: from its centre to its owner's; and to its neighbour's, or where it
+/// is linked from its peer's centre to that of the peer's owner, or +0.0. `None` where something of it is not there.
+pub fn distances(lent: &Lent, face: usize) -> [Option<f64>; 2] {
+    let adjacency = |at: usize| lent.slices.adjacency.get(at).copied();
+    let to_owner = |face: usize| lent.distance(face, adjacency(2 * face)?);
+    let codes = &lent.slices.codes;
+    let other = || match (adjacency(2 * face + 1)?, *codes.get(2 * face + 1)?) {
+        (0, 0) => Some(0.0),
+        (0, peer) if peer <= codes.len() / 2 => to_owner(peer - 1),
+        (0, _) => None,
+        (neighbour, _) => lent.distance(face, neighbour - 1),
+    };
+    [to_owner(face), other()]
+}
+
+/// The same bits, or two NaNs.
+pub fn agree(stored: f64, given: f64) -> bool {
+    stored.to_bits() == given.to_bits() || (stored.is_nan() && given.is_nan())
 }

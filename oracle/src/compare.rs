@@ -2,6 +2,7 @@
 //! on good input and on damaged copies of it. Where they differ, the smallest case is printed in full.
 
 mod crowds;
+mod distances;
 
 use crate::calls::{self, is_copied, Outcome, Refusal};
 use crate::cases::{self, Case, Settings, Visit};
@@ -14,6 +15,7 @@ use crate::makers;
 use crate::port::{Answer, Call, Port};
 use crate::random::Random;
 use crowds::Crowds;
+use distances::Distances;
 use std::fmt::Write;
 
 /// What every output holds before a call.
@@ -40,6 +42,7 @@ struct Tally {
     /// Compared calls that 6 refuses, and those of them with several bad links.
     bad_links: [u64; 2],
     crowds: Crowds,
+    distances: Distances,
     smallest: Option<Difference>,
     claims: Claims,
 }
@@ -241,6 +244,9 @@ fn print_tally(entry: Entry, is_linked: bool, tally: &Tally) {
     if entry.lends(Part::Adjacency) {
         tally.crowds.print(entry);
     }
+    if entry.lends(Part::Geometry) {
+        tally.distances.print(entry);
+    }
     if exact::is_claimed(entry) {
         tally.claims.print(entry.name());
     }
@@ -260,6 +266,15 @@ fn compare_case(
     compare_call(&case.name, entry, call, &lent, &outputs, true, tally);
     let mut tries = damages(random, entry, &lent, visit);
     tries.extend(crowding(random, entry, &lent, visit));
+    if entry.checks_distances() {
+        // in the others, which change what the distances are, these stay as they were
+        let refill = |damages| match random.chance(3, 4) {
+            true => damage::refilled(damages),
+            false => damages,
+        };
+        tries = tries.into_iter().map(refill).collect();
+    }
+    tries.extend(spoiling(random, entry, &lent, visit));
     for damages in tries {
         let mut lent = lent.clone();
         let mut outputs = outputs.clone();
@@ -302,8 +317,8 @@ pub fn damages(random: &mut Random, entry: Entry, lent: &Lent, visit: Visit) -> 
     tries
 }
 
-/// Damages that give a cell about as many faces as 14 allows. They come after all others, which the fixed list
-/// is made from too.
+/// Damages that give a cell about as many faces as 14 allows. They come after those that the fixed list is made from
+/// too.
 fn crowding(random: &mut Random, entry: Entry, lent: &Lent, visit: Visit) -> Vec<Vec<Damage>> {
     let count = match visit {
         Visit::Thorough => 10,
@@ -312,6 +327,18 @@ fn crowding(random: &mut Random, entry: Entry, lent: &Lent, visit: Visit) -> Vec
     };
     (0..count)
         .filter_map(|_| damage::of_crowd(random, entry, lent))
+        .collect()
+}
+
+/// Damages to distances, and centres of every kind.
+pub fn spoiling(random: &mut Random, entry: Entry, lent: &Lent, visit: Visit) -> Vec<Vec<Damage>> {
+    let count = match visit {
+        Visit::Thorough => 16,
+        Visit::Usual => 3,
+        Visit::Passing => 0,
+    };
+    (0..count)
+        .filter_map(|_| damage::of_distances(random, entry, lent))
         .collect()
 }
 
@@ -362,6 +389,7 @@ fn compare_call(
         tally.bad_links[1] += u64::from(checks::bad_links(lent).len() > 1);
     }
     tally.crowds.count(entry, lent, &expected);
+    tally.distances.count(entry, lent, &expected);
     tally.beyond += u64::from(!built && kind != 1);
     let wanted = expected.contents(entry, outputs);
     let Some(difference) = difference(entry, lent, &expected, &wanted, answer, &written) else {

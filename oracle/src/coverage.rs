@@ -1,9 +1,10 @@
-//! Every call of the Rust over every maker, without the port: what `oracle/coverage` measures.
+//! Every call of the Rust over every maker, and what the checks before it refuse, without the port: what
+//! `oracle/coverage` measures.
 
 use crate::calls::{self, Outcome};
 use crate::cases::{self, Case, Settings, Visit};
 use crate::checks::{self, LIMIT};
-use crate::compare::{damages, patterned};
+use crate::compare::{damages, expected, patterned, spoiling};
 use crate::damage;
 use crate::entry::{Entry, Part};
 use crate::lent::Lent;
@@ -43,19 +44,19 @@ fn whole_and_damaged(
     answers: &mut Answers,
 ) {
     let outputs = patterned(entry, good);
-    let mut tries = damages(random, entry, good, visit);
+    let tries = damages(random, entry, good, visit).into_iter();
+    let mut tries: Vec<_> = tries.map(damage::refilled).collect();
+    tries.extend(spoiling(random, entry, good, visit));
     tries.push(Vec::new());
     for damages in tries {
         let mut lent = good.clone();
         let mut outputs = outputs.clone();
         damage::apply(entry, &damages, &mut lent, &mut outputs);
-        if checks::check(entry, &lent, &outputs).is_none() {
-            let number = match calls::run(entry, &lent) {
-                Outcome::Accepted(_) => 0,
-                Outcome::Refused(refusal) => refusal.number,
-            };
-            *answers.entry((entry.name(), number)).or_default() += 1;
-        }
+        let number = match expected(entry, &lent, &outputs) {
+            Outcome::Accepted(_) => 0,
+            Outcome::Refused(refusal) => refusal.number,
+        };
+        *answers.entry((entry.name(), number)).or_default() += 1;
     }
 }
 

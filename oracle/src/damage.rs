@@ -1,13 +1,15 @@
-//! Damaged copies of good input: lengths, counts, numbers, indices, chains, codes and links, and cells with many
-//! faces.
+//! Damaged copies of good input: lengths, counts, numbers, indices, chains, codes and links, cells with many
+//! faces, and distances.
 
 mod crowd;
+mod distance;
 
 pub use crowd::of_crowd;
+pub use distance::{image_distance, of_distances, Spread};
 
-use crate::checks::LIMIT;
+use crate::checks::{self, LIMIT};
 use crate::entry::{Entry, Part, Unit};
-use crate::lent::{Lent, Slice, SliceMut, Slices};
+use crate::lent::{Lent, Slice, SliceMut, Slices, FACE_WIDTH, OWN};
 use crate::makers;
 use crate::random::Random;
 
@@ -35,6 +37,12 @@ pub enum Damage {
     Whole(Part, usize, usize),
     /// One number of a slice of floats.
     Float(Part, usize, f64),
+    /// The lowest bit of a number of the geometry.
+    Flipped(usize),
+    /// Every centre of a face or of a cell, from this seed.
+    Centres(Spread, u64),
+    /// The distances of every face made anew.
+    Refilled,
     /// The records of a table of chains in another order, the chains the same.
     Shuffled(Part, u64),
     /// One more record in a table of chains, which no chain reaches.
@@ -75,6 +83,13 @@ impl Damage {
                     }
                 }
             }
+            Damage::Flipped(at) => {
+                if let Some(number) = lent.slices.geometry.get_mut(at) {
+                    *number = f64::from_bits(number.to_bits() ^ 1);
+                }
+            }
+            Damage::Centres(spread, seed) => distance::spread(lent, spread, seed),
+            Damage::Refilled => refill(lent),
             Damage::Shuffled(part, seed) => shuffle(lent, part, seed),
             Damage::Spare(part) => add_record(lent, part),
             Damage::Faces {
@@ -96,6 +111,53 @@ impl Damage {
     }
 }
 
+impl Damage {
+    /// Whether it may change what the distances of a face are, and not these.
+    pub fn moves(self) -> bool {
+        match self {
+            Damage::Whole(Part::Adjacency, ..) => true,
+            Damage::Whole(Part::Codes, at, _) => at % 2 == 1,
+            Damage::Float(Part::Geometry, at, _) => at % FACE_WIDTH < 3,
+            Damage::Float(Part::Places, at, _) => at % 4 < 3,
+            Damage::Centres(..) | Damage::Faces { .. } => true,
+            _ => false,
+        }
+    }
+}
+
+/// What is lent with the changes so far.
+struct Changed {
+    lent: Lent,
+    damages: Vec<Damage>,
+}
+
+impl Changed {
+    fn of(lent: &Lent) -> Self {
+        Self {
+            lent: lent.clone(),
+            damages: Vec::new(),
+        }
+    }
+
+    fn make(&mut self, damage: Damage) {
+        damage.apply(&mut self.lent, &mut Slices::default());
+        self.damages.push(damage);
+    }
+}
+
+/// Makes the distances of every face anew, by what is lent; one that is of a cell or of a face that is not there stays
+/// as it is.
+fn refill(lent: &mut Lent) {
+    for face in 0..lent.slices.geometry.len() / FACE_WIDTH {
+        let record = FACE_WIDTH * face;
+        for (side, given) in checks::distances(lent, face).into_iter().enumerate() {
+            if let Some(given) = given {
+                lent.slices.geometry[record + OWN + side] = given;
+            }
+        }
+    }
+}
+
 /// Makes the changes. A slice that is read and written over is an output as it is then lent.
 pub fn apply(entry: Entry, damages: &[Damage], lent: &mut Lent, outputs: &mut Slices) {
     for damage in damages {
@@ -104,6 +166,14 @@ pub fn apply(entry: Entry, damages: &[Damage], lent: &mut Lent, outputs: &mut Sl
     for &part in entry.outputs().iter().filter(|&&part| entry.lends(part)) {
         outputs.take(part, &lent.slices);
     }
+}
+
+/// The changes and, where they may have changed what the distances are, these made anew.
+pub fn refilled(mut damages: Vec<Damage>) -> Vec<Damage> {
+    if damages.iter().any(|damage| damage.moves()) {
+        damages.push(Damage::Refilled);
+    }
+    damages
 }
 
 /// Gives the records of a table other numbers, and names them by these in heads and records.
@@ -312,7 +382,7 @@ pub fn of_layout(random: &mut Random, entry: Entry) -> Option<Damage> {
 /// Volumes that no mesh of the Rust has.
 const VOLUMES: [f64; 6] = [0.0, -0.0, -1.0, 5e-324, f64::INFINITY, f64::NAN];
 
-/// A change of one float of the mesh or the stencil, which no check looks at.
+/// A change of one float of the mesh or the stencil, and of no distance.
 pub fn of_floats(random: &mut Random, entry: Entry, lent: &Lent) -> Option<Damage> {
     let part = random.pick(&[
         Part::Geometry,
@@ -321,7 +391,10 @@ pub fn of_floats(random: &mut Random, entry: Entry, lent: &Lent) -> Option<Damag
         Part::Weights,
         Part::Inverses,
     ]);
-    let length = lent.slices.slice(part).len();
+    let length = match part {
+        Part::Geometry => OWN * (lent.slices.geometry.len() / FACE_WIDTH),
+        _ => lent.slices.slice(part).len(),
+    };
     if !entry.lends(part) || length == 0 {
         None
     } else if part == Part::Places && random.chance(1, 2) {
@@ -329,7 +402,11 @@ pub fn of_floats(random: &mut Random, entry: Entry, lent: &Lent) -> Option<Damag
         Some(Damage::Float(part, volume, random.pick(&VOLUMES)))
     } else {
         let value = makers::float(random, makers::Style::Wild);
-        Some(Damage::Float(part, random.below(length), value))
+        let at = match (part, random.below(length)) {
+            (Part::Geometry, place) => place / OWN * FACE_WIDTH + place % OWN,
+            (_, place) => place,
+        };
+        Some(Damage::Float(part, at, value))
     }
 }
 

@@ -6,7 +6,7 @@ use crate::calls::{Outcome, Place};
 use crate::compare::{expected, patterned};
 use crate::damage::{self, Count, Damage};
 use crate::entry::{Entry, Part, Part::*};
-use crate::lent::{Counts, Lent, SliceMut, Slices};
+use crate::lent::{Counts, Lent, SliceMut, Slices, FACE_WIDTH};
 use crate::makers;
 use std::fmt::Write;
 use Change::{Dimension, Float, Length, Nothing, Number, Records, Whole};
@@ -39,14 +39,18 @@ const WHOLE: [[usize; 16]; 7] = [
 ];
 
 #[rustfmt::skip]
-const FLOAT: [[f64; 9]; 28] = [
-    [1.0, 0.5, 0.0, 1.0, 0.0, 0.0, 1.0, 0.0, 0.0], // geometry
-    [0.0, 0.5, 0.0, -1.0, 0.0, 0.0, -1.0, 0.0, 0.0],
-    [2.0, 0.5, 0.0, 1.0, 0.0, 0.0, 1.0, 0.0, 0.0],
-    [0.5, 0.0, 0.0, 0.0, -1.0, 0.0, 0.0, -1.0, 0.0],
-    [0.5, 1.0, 0.0, 0.0, 1.0, 0.0, 0.0, 1.0, 0.0],
-    [1.5, 0.0, 0.0, 0.0, -1.0, 0.0, 0.0, -1.0, 0.0],
-    [1.5, 1.0, 0.0, 0.0, 1.0, 0.0, 0.0, 1.0, 0.0],
+const GEOMETRY: [[f64; FACE_WIDTH]; 7] = [
+    [1.0, 0.5, 0.0, 1.0, 0.0, 0.0, 1.0, 0.0, 0.0, 0.5, 0.5],
+    [0.0, 0.5, 0.0, -1.0, 0.0, 0.0, -1.0, 0.0, 0.0, 0.5, 0.5],
+    [2.0, 0.5, 0.0, 1.0, 0.0, 0.0, 1.0, 0.0, 0.0, 0.5, 0.5],
+    [0.5, 0.0, 0.0, 0.0, -1.0, 0.0, 0.0, -1.0, 0.0, 0.5, 0.0],
+    [0.5, 1.0, 0.0, 0.0, 1.0, 0.0, 0.0, 1.0, 0.0, 0.5, 0.0],
+    [1.5, 0.0, 0.0, 0.0, -1.0, 0.0, 0.0, -1.0, 0.0, 0.5, 0.0],
+    [1.5, 1.0, 0.0, 0.0, 1.0, 0.0, 0.0, 1.0, 0.0, 0.5, 0.0],
+];
+
+#[rustfmt::skip]
+const FLOAT: [[f64; 9]; 21] = [
     [0.5, 0.5, 0.0, 1.0, 1.5, 0.5, 0.0, 1.0, 0.0], // places
     [0.0, 0.0, 0.0, 0.0, 0.0, 2.0, 0.0, 0.0, 0.0], // values
     [-2.0, 0.0, 0.0, 4.0, 0.0, 0.0, 0.0, 0.0, 0.0],
@@ -71,7 +75,7 @@ const FLOAT: [[f64; 9]; 28] = [
 ];
 
 /// The row at which a slice starts in its table.
-const ROWS: [(Part, usize); 22] = [
+const ROWS: [(Part, usize); 21] = [
     (Adjacency, 0),
     (Heads, 1),
     (Facing, 2),
@@ -79,21 +83,20 @@ const ROWS: [(Part, usize); 22] = [
     (Codes, 4),
     (Starts, 5),
     (Equations, 6),
-    (Geometry, 0),
-    (Places, 7),
-    (Values, 8),
-    (Weights, 12),
-    (Inverses, 16),
-    (Diagonal, 18),
-    (Responses, 19),
-    (Pressure, 20),
-    (Velocity, 21),
-    (Gradient, 22),
-    (Walls, 23),
-    (Predicted, 24),
-    (Coefficients, 25),
-    (Correction, 26),
-    (Flux, 27),
+    (Places, 0),
+    (Values, 1),
+    (Weights, 5),
+    (Inverses, 9),
+    (Diagonal, 11),
+    (Responses, 12),
+    (Pressure, 13),
+    (Velocity, 14),
+    (Gradient, 15),
+    (Walls, 16),
+    (Predicted, 17),
+    (Coefficients, 18),
+    (Correction, 19),
+    (Flux, 20),
 ];
 
 /// Where x of cell 1's centre is 2^-26 from that of cell 0, and where it is 2^-25 from it.
@@ -143,7 +146,7 @@ const STENCIL: &[Case] = &[
     ("link of face 4 to face 5", Whole(Codes, 9, 6)),
     ("room for 5 records", Records(5)),
     ("centre distance 2^-26", Float(Places, 4, NEAR)),
-    ("centre of face 3 its cell's", Float(Geometry, 28, 0.5)),
+    ("centre of face 3 its cell's", Float(Geometry, 34, 0.5)),
     ("no faces of cell 0 but 0 and 1", Whole(Facing, 3, 0)),
     ("no condition at face 3", Whole(Codes, 6, 0)),
 ];
@@ -172,7 +175,7 @@ const BOUNDARY: &[Case] = &[
     ("as it stands", Nothing),
     (
         "centre of face 3 2^-27 from its cell's",
-        Float(Geometry, 28, BESIDE),
+        Float(Geometry, 34, BESIDE),
     ),
     ("code 1 at linked face 1", Whole(Codes, 2, 1)),
     ("dimension 4", Dimension(4)),
@@ -183,8 +186,8 @@ const BOUNDARY: &[Case] = &[
     ("link of face 4 to face 5", Whole(Codes, 9, 6)),
     ("centre distance 2^-26", Float(Places, 4, NEAR)),
     ("response -1", Float(Responses, 0, -1.0)),
-    ("area of face 6 0", Float(Geometry, 58, 0.0)),
-    ("centre of face 3 its cell's", Float(Geometry, 28, 0.5)),
+    ("area of face 6 0", Float(Geometry, 70, 0.0)),
+    ("centre of face 3 its cell's", Float(Geometry, 34, 0.5)),
 ];
 
 const PREDICTION: &[Case] = &[
@@ -263,8 +266,8 @@ const STEP: &[Case] = &[
     ("no condition at face 3", Whole(Codes, 6, 0)),
     ("response -1", Float(Responses, 0, -1.0)),
     ("area of face 0 1e308", Float(Geometry, 3, 1.0e308)),
-    ("area of face 6 0", Float(Geometry, 58, 0.0)),
-    ("area of face 3 1e308", Float(Geometry, 31, -1.0e308)),
+    ("area of face 6 0", Float(Geometry, 70, 0.0)),
+    ("area of face 3 1e308", Float(Geometry, 37, -1.0e308)),
     ("wall flux of face 4 1.7e308", Float(Walls, 4, 1.7e308)),
     ("volume of cell 1 0", Float(Places, 7, 0.0)),
 ];
@@ -314,6 +317,8 @@ fn cases(entry: Entry) -> &'static [Case] {
         Entry::ContinuityMetrics => METRICS,
         Entry::Step => STEP,
         Entry::CorrectFaceFluxInPlace => IN_PLACE,
+        // it has the program `distances`
+        Entry::FaceDistances => &[],
     }
 }
 
@@ -374,7 +379,15 @@ fn words(entry: Entry, outputs: &Slices) -> String {
 
 /// What every entry accepts.
 fn base() -> Lent {
-    let mut lent = Lent::of(COUNTS, RECORDS, Slices::default());
+    let geometry = GEOMETRY.concat();
+    let mut lent = Lent::of(
+        COUNTS,
+        RECORDS,
+        Slices {
+            geometry,
+            ..Slices::default()
+        },
+    );
     for (part, row) in ROWS {
         let due = lent.due(part).expect("a small slice");
         match lent.slices.slice_mut(part) {
@@ -398,6 +411,6 @@ fn damages(entry: Entry, change: &Change) -> Vec<Damage> {
         Length(part, n) => vec![Damage::Output(part, n)],
         Number(part, n) => vec![Damage::Number(part, n)],
         Whole(part, at, n) => vec![Damage::Whole(part, at, n)],
-        Float(part, at, x) => vec![Damage::Float(part, at, x)],
+        Float(part, at, x) => damage::refilled(vec![Damage::Float(part, at, x)]),
     }
 }

@@ -1,5 +1,6 @@
 //! What each function is lent and what it hands out.
 
+use crate::lent::FACE_WIDTH;
 use Part::*;
 
 /// A lent slice, or one that is handed out.
@@ -106,7 +107,7 @@ impl Part {
     pub fn shape(self) -> (Unit, usize) {
         match self {
             Adjacency | Codes => (Unit::Face, 2),
-            Geometry => (Unit::Face, 9),
+            Geometry => (Unit::Face, FACE_WIDTH),
             Values => (Unit::Face, 4),
             Walls | Predicted | Coefficients | Flux => (Unit::Face, 1),
             Heads => (Unit::Cell, 2),
@@ -158,10 +159,11 @@ pub enum Entry {
     ContinuityMetrics,
     Step,
     CorrectFaceFluxInPlace,
+    FaceDistances,
 }
 
 impl Entry {
-    pub const ALL: [Entry; 12] = [
+    pub const ALL: [Entry; 13] = [
         Entry::MomentumInverseDiagonal,
         Entry::LeastSquaresStencil,
         Entry::LeastSquaresGradient,
@@ -174,6 +176,7 @@ impl Entry {
         Entry::ContinuityMetrics,
         Entry::Step,
         Entry::CorrectFaceFluxInPlace,
+        Entry::FaceDistances,
     ];
 
     /// Those of document 01, which the fixed list and the program `edges` call.
@@ -198,6 +201,7 @@ impl Entry {
             Entry::ContinuityMetrics => "continuity_metrics",
             Entry::Step => "step",
             Entry::CorrectFaceFluxInPlace => "correct_face_flux_in_place",
+            Entry::FaceDistances => "face_distances",
         }
     }
 
@@ -240,6 +244,7 @@ impl Entry {
                 Correction,
                 Predicted,
             ],
+            Entry::FaceDistances => &[Adjacency, Places, Codes, Geometry],
         }
     }
 
@@ -269,11 +274,17 @@ impl Entry {
                 Metrics,
             ],
             Entry::CorrectFaceFluxInPlace => &[Predicted],
+            Entry::FaceDistances => &[Geometry],
         }
     }
 
     pub fn lends(self, part: Part) -> bool {
         self.inputs().contains(&part)
+    }
+
+    /// Whether it checks the distances of faces: it is lent the geometry and does not make them itself.
+    pub fn checks_distances(self) -> bool {
+        self.lends(Geometry) && !self.outputs().contains(&Geometry)
     }
 
     /// Whether the number of equation records is lent.

@@ -246,7 +246,9 @@ fn balance(lent: &Lent, flux: &[f64], outflow: &[f64]) -> Result<(), String> {
             return Err(format!("the outflow of cell {cell} is out of its bound"));
         }
         if terms.count > 26 || !is_near(Units::of(outflow), terms.exact, terms.quotable()) {
-            return Err(format!("the outflow of cell {cell} is out of the bound with 25"));
+            return Err(format!(
+                "the outflow of cell {cell} is out of the bound with 25"
+            ));
         }
         total = total.plus(Units::of(outflow));
         allowance = allowance.plus(terms.bound());

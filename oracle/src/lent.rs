@@ -3,7 +3,7 @@
 //! | slice | per | one record |
 //! |---|---|---|
 //! | adjacency | face | owner, neighbour + 1 (0 none) |
-//! | geometry | face | centre 3, area vector 3, normal 3 |
+//! | geometry | face | centre 3, area vector 3, normal 3, distance to the owner, distance on the other side |
 //! | heads | cell | first face record, first neighbour record |
 //! | places | cell | centre 3, volume |
 //! | facing | face record | face, next |
@@ -15,7 +15,8 @@
 //! | weights | equation record | coefficient 3, fixed value |
 //! | inverses | cell | nine numbers |
 //!
-//! Records count from 1 and 0 ends a chain. Chains keep the order of the Rust's `Vec`, cell after cell.
+//! Records count from 1 and 0 ends a chain. Chains keep the order of the Rust's `Vec`, cell after cell. The
+//! distance on the other side is to the neighbour; of a linked face it is its peer's to that one's owner; else +0.0.
 
 use crate::entry::{Part, Unit};
 use flursys::numerics::access::{Equation, Source};
@@ -25,6 +26,11 @@ use flursys::{
     LeastSquaresGradientStencil, MeshDimension, MeshId, ResolvedScalarBoundaryConditions,
     ScalarBoundaryCondition, UnstructuredMesh, Vec3,
 };
+
+/// How many numbers the geometry has of a face, and the places of its two distances among them.
+pub const FACE_WIDTH: usize = 11;
+pub const OWN: usize = 9;
+pub const OTHER: usize = 10;
 
 /// The mesh's number and its counts, as C has such a record, so that it can be lent by value.
 #[repr(C)]
@@ -168,7 +174,7 @@ impl Lent {
     /// A mesh and its conditions; a field is added by its slice.
     pub fn new(mesh: &UnstructuredMesh, conditions: &ResolvedScalarBoundaryConditions) -> Self {
         let mut slices = Slices::default();
-        export_faces(mesh, &mut slices);
+        export_faces(mesh, conditions, &mut slices);
         export_cells(mesh, &mut slices);
         export_conditions(mesh, conditions, &mut slices);
         let counts = Counts {
@@ -249,14 +255,15 @@ impl Lent {
     }
 
     fn face(&self, face: usize) -> Face {
-        let area_vector = vector(&self.slices.geometry, 9 * face + 3);
+        let record = FACE_WIDTH * face;
+        let area_vector = vector(&self.slices.geometry, record + 3);
         Face {
             vertices: Vec::new(),
             owner: whole(&self.slices.adjacency, 2 * face),
             neighbour: whole(&self.slices.adjacency, 2 * face + 1).checked_sub(1),
-            center: vector(&self.slices.geometry, 9 * face),
+            center: vector(&self.slices.geometry, record),
             area: area_vector.norm(),
-            normal: vector(&self.slices.geometry, 9 * face + 6),
+            normal: vector(&self.slices.geometry, record + 6),
             area_vector,
         }
     }
@@ -271,13 +278,27 @@ impl Lent {
         }
     }
 
+    /// How far the centre of a face is from that of a cell, by the Rust's arithmetic; `None` where one of them is
+    /// not there.
+    pub fn distance(&self, face: usize, cell: usize) -> Option<f64> {
+        let center = |numbers: &[f64], width: usize, at: usize| {
+            (at < numbers.len() / width).then(|| vector(numbers, width * at))
+        };
+        let face = center(&self.slices.geometry, FACE_WIDTH, face)?;
+        let cell = center(&self.slices.places, 4, cell)?;
+        Some((face - cell).norm())
+    }
+
     pub fn conditions(&self) -> ResolvedScalarBoundaryConditions {
         let id = self.id(Part::Codes);
         let slices = &self.slices;
         let faces = 0..self.counts.faces;
         let conditions = faces.clone().map(|face| match slices.codes[2 * face] {
             0 => None,
-            1 => Some(ScalarBoundaryCondition::FixedValue(slices.values[4 * face])),
+            1 => Some(ScalarBoundaryCondition::FixedValue(float(
+                &slices.values,
+                4 * face,
+            ))),
             _ => Some(ScalarBoundaryCondition::ZeroGradient),
         });
         let links = faces.map(|face| {
@@ -382,14 +403,38 @@ pub fn export_stencil(
     Some(())
 }
 
-fn export_faces(mesh: &UnstructuredMesh, slices: &mut Slices) {
-    for face in mesh.faces() {
+fn export_faces(
+    mesh: &UnstructuredMesh,
+    conditions: &ResolvedScalarBoundaryConditions,
+    slices: &mut Slices,
+) {
+    for (place, face) in mesh.faces().iter().enumerate() {
         let neighbour = face.neighbour.map_or(0, |cell| cell + 1);
         slices.adjacency.extend([face.owner, neighbour]);
         slices.geometry.extend(three(face.center));
         slices.geometry.extend(three(face.area_vector));
         slices.geometry.extend(three(face.normal));
+        slices.geometry.extend(distances(mesh, conditions, place));
     }
+}
+
+/// The two distances of a face of the Rust's mesh: to its owner, and on its other side.
+pub fn distances(
+    mesh: &UnstructuredMesh,
+    conditions: &ResolvedScalarBoundaryConditions,
+    face: usize,
+) -> [f64; 2] {
+    let to = |face: &Face, cell: usize| (face.center - mesh.cells()[cell].center).norm();
+    let faces = mesh.faces();
+    let other = match (faces[face].neighbour, conditions.cyclic_link(face)) {
+        (Some(neighbour), _) => to(&faces[face], neighbour),
+        (None, Some(link)) => {
+            let peer = &faces[link.peer_face];
+            to(peer, peer.owner)
+        }
+        (None, None) => 0.0,
+    };
+    [to(&faces[face], faces[face].owner), other]
 }
 
 fn export_cells(mesh: &UnstructuredMesh, slices: &mut Slices) {

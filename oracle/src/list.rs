@@ -82,6 +82,7 @@ pub fn text() -> String {
         add_case(&mut random, &mut list, &made, Walls::Wild, number);
     }
     add_damaged(&mut random, &mut list);
+    add_wrong_distances(&mut random, &mut list);
     list.heading() + &list.blocks
 }
 
@@ -150,15 +151,20 @@ fn numbered(random: &mut Random, made: &Made, walls: Walls, number: u64) -> Case
     case
 }
 
-/// Damaged copies, on small meshes and on one with links.
-fn add_damaged(random: &mut Random, list: &mut List) {
+/// Small meshes made by hand, and one with links.
+fn small(random: &mut Random) -> Vec<Made> {
     let mut meshes = makers::specials();
     meshes.retain(|made| {
         let small = ["one triangle", "two triangles", "one tetrahedron"];
         small.contains(&made.name.as_str())
     });
     meshes.push(sized(random, 1, 1, true));
-    for made in &meshes {
+    meshes
+}
+
+/// Damaged copies of small meshes, with the distances of what they are then.
+fn add_damaged(random: &mut Random, list: &mut List) {
+    for made in &small(random) {
         let number = number(random);
         for entry in Entry::of_document_01() {
             let case = numbered(random, made, Walls::Mixed, number);
@@ -177,9 +183,33 @@ fn add_damaged_calls(random: &mut Random, list: &mut List, entry: Entry, case: &
     for damages in tries {
         let mut lent = good.clone();
         let mut outputs = outputs.clone();
+        let damages = damage::refilled(damages);
         damage::apply(entry, &damages, &mut lent, &mut outputs);
         if matches!(expected(entry, &lent, &outputs), Outcome::Refused(_)) {
             list.offer(entry, &lent, &outputs);
+        }
+    }
+}
+
+/// Copies of small meshes that 20 refuses, one a mesh and an entry.
+fn add_wrong_distances(random: &mut Random, list: &mut List) {
+    for made in &small(random) {
+        let number = number(random);
+        for entry in Entry::of_document_01().filter(|entry| entry.checks_distances()) {
+            let case = numbered(random, made, Walls::Mixed, number);
+            let good = case.lent_to(random, entry);
+            loop {
+                let mut lent = good.clone();
+                let mut outputs = patterned(entry, &good);
+                let damages = damage::of_distances(random, entry, &good).expect("it has faces");
+                damage::apply(entry, &damages, &mut lent, &mut outputs);
+                makers::canonical(&mut lent.slices);
+                let is_small = lent.counts.faces == good.counts.faces;
+                if is_small && answer(&expected(entry, &lent, &outputs)).0 == 20 {
+                    list.offer(entry, &lent, &outputs);
+                    break;
+                }
+            }
         }
     }
 }

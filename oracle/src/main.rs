@@ -7,6 +7,7 @@ mod checks;
 mod compare;
 mod coverage;
 mod damage;
+mod distances;
 mod edges;
 mod entry;
 mod exact;
@@ -29,6 +30,7 @@ usage: oracle COMMAND
   list                             the fixed list, for the repository's own tests
   edges                            the lines of the program `edges`
   oneslice                         the lines of the program `oneslice`
+  distances                        the lines of the program `distances`
   sheets FILE...                   the port against the Rust, on sheets of the sheet program
   bench                            times of both sides
   self-test [--seed S] [--cases N] the comparison tried on the Rust itself and on spoiled copies of it
@@ -64,6 +66,7 @@ fn main() -> ExitCode {
         "list" => print!("{}", list::text()),
         "edges" => print!("{}", edges::text()),
         "oneslice" => print!("{}", edges::in_place()),
+        "distances" => print!("{}", distances::text()),
         "bench" => bench::run(&port::linked()),
         "coverage-cases" => coverage::run(&settings),
         _ => return refused(),

@@ -2,6 +2,7 @@
 //! one way must be caught, and so must outputs that break demand 3.
 
 mod crowded;
+mod distances;
 
 use crate::calls::{self, Outcome};
 use crate::cases::{self, Settings};
@@ -40,7 +41,8 @@ pub fn run(settings: &Settings) -> bool {
         println!("sham, {name}: {differ} differ");
         all_right &= differ > 0;
     };
-    for sham in SHAMS.iter().chain(crowded::SHAMS) {
+    let shams = SHAMS.iter().chain(crowded::SHAMS);
+    for sham in shams.chain(distances::SHAMS) {
         let port = Port {
             sqrt: None,
             entries: vec![(sham.entry, spoiled(sham))],
@@ -302,7 +304,7 @@ const SHAMS: &[Sham] = &[
         name: "the predicted field cleared by a check",
         entry: Entry::CorrectFaceFluxInPlace,
         fault: |_, _, outputs, answer| {
-            if let Answer::Refused(1..=6 | 14, _) = answer {
+            if let Answer::Refused(1..=6 | 14 | 20, _) = answer {
                 outputs.predicted.fill(0.0);
             }
             answer
@@ -343,7 +345,7 @@ const SHAMS: &[Sham] = &[
         name: "outputs cleared before the checks",
         entry: Entry::RhieChowPredictedFlux,
         fault: |_, _, outputs, answer| {
-            if let Answer::Refused(1..=6 | 14, _) = answer {
+            if let Answer::Refused(1..=6 | 14 | 20, _) = answer {
                 for part in Entry::RhieChowPredictedFlux.outputs() {
                     if let SliceMut::Float(numbers) = outputs.slice_mut(*part) {
                         numbers.fill(0.0);

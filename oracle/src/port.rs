@@ -150,5 +150,6 @@ mod library {
             adjacency, [Codes] codes, values, [Coefficients] coefficients, [Correction] correction,
             [Predicted] => predicted
         );
+        FaceDistances = juvandeer_face_distances(adjacency, places, [Codes] codes => geometry);
     }
 }

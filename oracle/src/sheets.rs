@@ -53,7 +53,7 @@ fn lent(sheet: &Sheet) -> (Vec<Entry>, Lent) {
     };
     let slices = Slices {
         adjacency: mesh.adjacency().to_vec(),
-        geometry: mesh.geometry().to_vec(),
+        geometry: mesh.geometry_under(&sheet.conditions).to_vec(),
         heads: mesh.heads().to_vec(),
         places: mesh.places().to_vec(),
         facing: mesh.facing().to_vec(),

@@ -1,9 +1,9 @@
 //! Copies in which a cell has about as many naming faces, or records in its chain of faces, as 14 allows.
 
-use super::{of_floats, of_layout, of_links, of_shape, Count, Damage};
+use super::{of_floats, of_layout, of_links, of_shape, Changed, Count, Damage};
 use crate::checks::{face_records, namings, LIMIT, MOST};
 use crate::entry::{Entry, Part};
-use crate::lent::{Lent, Slices};
+use crate::lent::Lent;
 use crate::random::Random;
 
 /// What a cell is brought to: about as many as 14 allows, and 256 more, which a byte does not tell from them.
@@ -18,29 +18,13 @@ const TOTALS: [usize; 8] = [
     MOST + 256,
 ];
 
-/// What is lent with the changes so far.
-struct Changed {
-    lent: Lent,
-    damages: Vec<Damage>,
-}
-
-impl Changed {
-    fn make(&mut self, damage: Damage) {
-        damage.apply(&mut self.lent, &mut Slices::default());
-        self.damages.push(damage);
-    }
-}
-
 /// More faces that name a cell, more records in a cell's chain, or both, at one cell or two at random; and often
 /// what another check or arithmetic refuses. What is lent is good.
 pub fn of_crowd(random: &mut Random, entry: Entry, lent: &Lent) -> Option<Vec<Damage>> {
     if !entry.lends(Part::Adjacency) {
         return None;
     }
-    let mut changed = Changed {
-        lent: lent.clone(),
-        damages: Vec::new(),
-    };
+    let mut changed = Changed::of(lent);
     let has_chains = entry.lends(Part::Facing);
     let is_named = !has_chains || random.chance(2, 3);
     let is_listed = has_chains && (!is_named || random.chance(1, 2));
@@ -63,7 +47,7 @@ pub fn of_crowd(random: &mut Random, entry: Entry, lent: &Lent) -> Option<Vec<Da
 }
 
 /// Lets more faces name a cell: ones that named another, or new ones.
-fn name_again(random: &mut Random, changed: &mut Changed) {
+pub(super) fn name_again(random: &mut Random, changed: &mut Changed) {
     let cells = changed.lent.counts.cells;
     let cell = random.below(cells);
     let wanted = random
@@ -132,7 +116,7 @@ fn give_room(good: &Lent, changed: &mut Changed) {
 }
 
 /// Something else, half of the time: what 1 to 6 refuse, a float, or the records in another order.
-fn add_another(random: &mut Random, entry: Entry, changed: &mut Changed) {
+pub(super) fn add_another(random: &mut Random, entry: Entry, changed: &mut Changed) {
     let lent = &changed.lent;
     let others: Vec<Damage> = match random.below(14) {
         0 | 1 => of_links(random, entry, lent).unwrap_or_default(),

@@ -32,6 +32,9 @@ fn named(entry: Entry, lent: &Lent, outputs: &mut Slices, cell: Option<usize>) -
     if let Some(face) = bad_link(entry, lent) {
         return Answer::Refused(6, face);
     }
+    if let Some(&face) = checks::wrong_distances(entry, lent).first() {
+        return Answer::Refused(20, face);
+    }
     let outcome = calls::run(entry, lent);
     *outputs = outcome.contents(entry, outputs);
     answer(&outcome)

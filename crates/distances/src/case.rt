@@ -22,9 +22,17 @@ pub struct Case {
 // The number of the mesh.
 const MESH: u64 = 7;
 
+const ADJACENCY: [usize; 10] = [0, 2, 0, 0, 1, 0, 0, 0, 1, 0];
+
+const HEADS: [usize; 4] = [1, 1, 4, 2];
+
+const PLACES: [f64; 8] = [0.25, 0.5, 0.125, 1.0, 1.75, 0.25, -0.25, 1.0];
+
 const FACING: [usize; 12] = [0, 2, 1, 3, 3, 0, 0, 5, 2, 6, 4, 0];
 
 const BORDERING: [usize; 4] = [1, 0, 0, 0];
+
+const CODES: [usize; 10] = [0, 0, 0, 3, 0, 2, 1, 0, 2, 0];
 
 // In the places of the distances stands what none is.
 const GEOMETRY: [f64; 55] = [
@@ -46,10 +54,6 @@ const VALUES: [f64; 20] = [
 
 // The mesh as it stands.
 pub(crate) fn base(alloc: Global) -> Result<Case, AllocError> {
-    let mut geometry = Vec::new(alloc);
-    geometry.extend_from_slice(&GEOMETRY)?;
-    let mut values = Vec::new(alloc);
-    values.extend_from_slice(&VALUES)?;
     Ok(Case {
         counts: Counts {
             mesh: MESH,
@@ -59,13 +63,13 @@ pub(crate) fn base(alloc: Global) -> Result<Case, AllocError> {
             facings: 6,
             borderings: 2,
         },
-        adjacency: vec![in alloc; 0, 2, 0, 0, 1, 0, 0, 0, 1, 0]?,
-        geometry,
-        heads: vec![in alloc; 1, 1, 4, 2]?,
-        places: vec![in alloc; 0.25, 0.5, 0.125, 1.0, 1.75, 0.25, -0.25, 1.0]?,
+        adjacency: Vec::from_slice(alloc, &ADJACENCY)?,
+        geometry: Vec::from_slice(alloc, &GEOMETRY)?,
+        heads: Vec::from_slice(alloc, &HEADS)?,
+        places: Vec::from_slice(alloc, &PLACES)?,
         number: MESH,
-        codes: vec![in alloc; 0, 0, 0, 3, 0, 2, 1, 0, 2, 0]?,
-        values,
+        codes: Vec::from_slice(alloc, &CODES)?,
+        values: Vec::from_slice(alloc, &VALUES)?,
         responses: [0.5, 0.25],
     })
 }

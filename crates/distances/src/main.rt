@@ -4,26 +4,21 @@
 // were made by `oracle distances` from the Rust and from a model of the checks; none was taken from a run.
 #![tactic(auto)]
 
-use case::Case;
 use mesh::Answer;
 use pattern::fill;
 use pattern::word::Words;
-use std::{fmt, io};
+use std::io;
 
 mod case;
 mod cases;
 mod change;
 
-// What a call answered.
-#[derive(Clone, Copy)]
-struct Told(Answer);
-
-impl fmt::Display for Told {
-    fn fmt<W: fmt::Write>(&self, f: &mut fmt::Formatter<W>) -> fmt::Result {
-        match self.0 {
-            Ok(()) => f.write_str("accepted"),
-            Err(refusal) => write!(f, "{refusal}"),
-        }
+// Writes a call's line, with the words of its output.
+fn tell(rt: &impl Print, name: &str, answer: Answer, output: &[f64]) -> io::Result<()> {
+    let words = Words(output);
+    match answer {
+        Ok(()) => println!(rt; "{name}: accepted,{words}"),
+        Err(refusal) => println!(rt; "{name}: {refusal},{words}"),
     }
 }
 
@@ -31,9 +26,9 @@ fn make<R: Print + AllocGlobal>(rt: &R) -> io::Result<()> {
     for (name, changes) in cases::MADE {
         let mut case = case::base(rt.alloc())?;
         case.change(changes)?;
-        let answer = Told(case.make_distances());
-        let words = Words(case.geometry.as_slice());
-        println!(rt; "face_distances, {name}: {answer},{words}")?;
+        let answer = case.make_distances();
+        print!(rt; "face_distances, ")?;
+        tell(rt, name, answer, &case.geometry)?;
     }
     Ok(())
 }
@@ -41,8 +36,10 @@ fn make<R: Print + AllocGlobal>(rt: &R) -> io::Result<()> {
 fn check<R: Print + AllocGlobal>(rt: &R) -> io::Result<()> {
     for (name, changes) in cases::CHECKED {
         let case = case::made(rt.alloc(), changes)?;
-        let answer = Told(case.check());
-        println!(rt; "check, {name}: {answer}")?;
+        match case.check() {
+            Ok(()) => println!(rt; "check, {name}: accepted")?,
+            Err(refusal) => println!(rt; "check, {name}: {refusal}")?,
+        }
     }
     Ok(())
 }
@@ -52,9 +49,9 @@ fn coefficients<R: Print + AllocGlobal>(rt: &R, entry: &str, linked: bool) -> io
     for (name, changes) in cases::CHECKED {
         let case = case::made(rt.alloc(), changes)?;
         let mut out = vec![in rt.alloc(); fill(); case.counts.faces]?;
-        let answer = Told(case.coefficients(linked, &mut out));
-        let words = Words(out.as_slice());
-        println!(rt; "{entry}, {name}: {answer},{words}")?;
+        let answer = case.coefficients(linked, &mut out);
+        print!(rt; "{entry}, ")?;
+        tell(rt, name, answer, &out)?;
     }
     Ok(())
 }

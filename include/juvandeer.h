@@ -160,7 +160,10 @@ size_t juvandeer_refusal_sentence(uint64_t number, size_t index, uint8_t *out, s
  *           nine numbers before them keep every bit
  *
  * Refusals: 1 to 4, 14 and 6, geometry as it was. None by arithmetic: a distance may be infinite or a
- * NaN. */
+ * NaN.
+ *
+ * Proved of every accepted call: what it leaves passes 20, with these links and in calls that are lent
+ * none. */
 uint64_t juvandeer_face_distances(
     struct juvandeer_counts counts,
     const size_t *adjacency, size_t adjacency_len,

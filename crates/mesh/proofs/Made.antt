@@ -49,47 +49,54 @@ suc_bound : (n long : ℕ) → 11 * suc n ≤ long → 11 * n ≤ long
 suc_bound n long h = omega (arith, h)
 
 module _ (a : List ℕ) (g p : List Float) (k : List ℕ) where
-  own_made : (n f : ℕ) → f < n → 11 * n ≤ length g → own_distance_at (with_distances a g p k n) f ≡ owner_distance a g p f
-  unfolding with_distances
-  own_made zero f l h = absurd (omega (arith, l))
-  own_made (suc n) f l h =
-      ⊎_elim (λ (e : f ≡ n). subst (λ (i : ℕ). own_distance_at (with_distances a g p k (suc n)) i ≡ owner_distance a g p i) (sym e) (last n h))
-      (λ (b : f < n). put_other (with_distances a g p k n) n (11 * f + 9) _ _ (λ e. omega (arith, b, e)) (λ e. omega (arith, e)) ∙ own_made n f b (suc_bound n (length g) h))
-      (eq-or-lt_of_le (le_of_suc-le-suc l))
-    where
-      last : (n : ℕ) → 11 * suc n ≤ length g → own_distance_at (with_distances a g p k (suc n)) n ≡ owner_distance a g p n
-      last n h =
-          let long = long_kept a g p k n in
-          get_or-set_other (set (with_distances a g p k n) (11 * n + 9) (owner_distance a g p n)) (11 * n + 10) (11 * n + 9) _ nan (λ e. omega (arith, e))
-          ∙ get_or-set_same (with_distances a g p k n) (11 * n + 9) (owner_distance a g p n) nan (omega (arith, h, long))
+  record Made (n f : ℕ) : Type 0 where
+    own : own_distance_at (with_distances a g p k n) f ≡ owner_distance a g p f
+    other : other_distance_at (with_distances a g p k n) f ≡ other_distance a g p k f
 
-  other_made : (n f : ℕ) → f < n → 11 * n ≤ length g → other_distance_at (with_distances a g p k n) f ≡ other_distance a g p k f
+  last : (n : ℕ) → 11 * suc n ≤ length g → Made (suc n) n
   unfolding with_distances
-  other_made zero f l h = absurd (omega (arith, l))
-  other_made (suc n) f l h =
-      ⊎_elim (λ (e : f ≡ n). subst (λ (i : ℕ). other_distance_at (with_distances a g p k (suc n)) i ≡ other_distance a g p k i) (sym e) (last n h))
-      (λ (b : f < n). put_other (with_distances a g p k n) n (11 * f + 10) _ _ (λ e. omega (arith, e)) (λ e. omega (arith, b, e)) ∙ other_made n f b (suc_bound n (length g) h))
+  last n h =
+      let l = with_distances a g p k n in
+      let long = long_kept a g p k n in
+      let longer = length-set l (11 * n + 9) (owner_distance a g p n) in
+      record {
+        own =
+            get_or-set_other (set l (11 * n + 9) (owner_distance a g p n)) (11 * n + 10) (11 * n + 9) _ nan (λ e. omega (arith, e))
+            ∙ get_or-set_same l (11 * n + 9) _ nan (omega (arith, h, long));
+        other = get_or-set_same (set l (11 * n + 9) (owner_distance a g p n)) (11 * n + 10) _ nan (omega (arith, h, long, longer));
+      }
+
+  made : (n f : ℕ) → f < n → 11 * n ≤ length g → Made n f
+  unfolding with_distances
+  made zero f l h = absurd (omega (arith, l))
+  made (suc n) f l h =
+      ⊎_elim (λ (e : f ≡ n). subst (Made (suc n)) (sym e) (last n h))
+      (λ (b : f < n).
+      let before = made n f b (suc_bound n (length g) h) in
+      record {
+        own = put_other (with_distances a g p k n) n (11 * f + 9) _ _ (λ e. omega (arith, b, e)) (λ e. omega (arith, e)) ∙ before.own;
+        other = put_other (with_distances a g p k n) n (11 * f + 10) _ _ (λ e. omega (arith, e)) (λ e. omega (arith, b, e)) ∙ before.other;
+      })
       (eq-or-lt_of_le (le_of_suc-le-suc l))
-    where
-      last : (n : ℕ) → 11 * suc n ≤ length g → other_distance_at (with_distances a g p k (suc n)) n ≡ other_distance a g p k n
-      last n h =
-          let long = long_kept a g p k n in
-          let longer = length-set (with_distances a g p k n) (11 * n + 9) (owner_distance a g p n) in
-          get_or-set_same (set (with_distances a g p k n) (11 * n + 9) (owner_distance a g p n)) (11 * n + 10) (other_distance a g p k n) nan (omega (arith, h, long, longer))
+
+  -- and is what the centres that stand there give
+  record Right (n f : ℕ) : Type 0 where
+    own : same (own_distance_at (with_distances a g p k n) f) (owner_distance a (with_distances a g p k n) p f) ≡ true
+    other : same (other_distance_at (with_distances a g p k n) f) (other_distance a (with_distances a g p k n) p k f) ≡ true
+
+  right_at : (n f : ℕ) → f < n → 11 * n ≤ length g → Right n f
+  right_at n f l h =
+      let m = made n f l h in
+      record { own = equal_is_same _ _ (m.own ∙ sym (own_kept a g p k n f)); other = equal_is_same _ _ (m.other ∙ sym (other_kept a g p k n f)) }
 
   -- each face of as many as there are
   right : (n f : ℕ) → f < n → 11 * n ≤ length g → wrong_distances a (with_distances a g p k n) p k f ≡ false
   unfolding wrong_distances
-  right n f l h =
-      let own = equal_is_same _ _ (own_made n f l h ∙ sym (own_kept a g p k n f)) in
-      let other = equal_is_same _ _ (other_made n f l h ∙ sym (other_kept a g p k n f)) in
-      rw (own, other) refl
+  right n f l h = let w = right_at n f l h in rw (w.own, w.other) refl
 
   right_between : (n f : ℕ) → f < n → 11 * n ≤ length g → wrong_between a (with_distances a g p k n) p f ≡ false
   unfolding wrong_between other_distance
-  right_between n f l h =
-      let own = equal_is_same _ _ (own_made n f l h ∙ sym (own_kept a g p k n f)) in
-      go (eqb (neighbour_at a f) 0) refl own (equal_is_same _ _ (other_made n f l h ∙ sym (other_kept a g p k n f)))
+  right_between n f l h = let w = right_at n f l h in go (eqb (neighbour_at a f) 0) refl w.own w.other
     where
       now : List Float
       now = with_distances a g p k n

@@ -23,9 +23,9 @@ across s = difference s.other s.owner
 unfoldable pub distances : Span → Pair
 distances s = pair (norm (difference s.center s.owner)) (norm (difference s.center s.other))
 
--- the response at the face: each side's counts by the distance of the other side
-unfoldable pub face_response : Pair → Pair → Float
-face_response d r = (d.other ⊗ r.owner ⊕ d.owner ⊗ r.other) ⊘ (d.owner ⊕ d.other)
+-- the value at the face of a field that is v on its two sides: each side's counts by the distance of the other side
+unfoldable pub interpolated : Pair → Pair → Float
+interpolated d v = (d.other ⊗ v.owner ⊕ d.owner ⊗ v.other) ⊘ (d.owner ⊕ d.other)
 
 -- response × (area · d) / d²
 unfoldable pub projected : Float → Vec3 → Vec3 → Float
@@ -39,12 +39,12 @@ positive k = cond (is_usable k) (Ok k) (Err BadCoefficient)
 unfoldable pub internal_coefficient : Span → Pair → Pair → Outcome
 internal_coefficient s d r =
     cond (is_far (norm_squared (across s)))
-    (cond (is_far (d.owner ⊕ d.other)) (positive (projected (face_response d r) s.area (across s))) (Err TooNear))
+    (cond (is_far (d.owner ⊕ d.other)) (positive (projected (interpolated d r) s.area (across s))) (Err TooNear))
     (Err TooNear)
 
 -- of a linked face, whose other centre is that of the peer's owner, translated back; no test of a distance
 unfoldable pub linked_coefficient : Span → Pair → Pair → Outcome
-linked_coefficient s d r = positive (projected (face_response d r) s.area (across s))
+linked_coefficient s d r = positive (projected (interpolated d r) s.area (across s))
 
 -- of a fixed-value face, whose centre is `away` from the owner's
 unfoldable pub fixed_coefficient : Vec3 → Vec3 → Float → Outcome

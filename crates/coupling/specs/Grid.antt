@@ -4,7 +4,9 @@ use Rattle.std.specs.Float.{nan}
 use Rattle.mesh.specs.Facts.{CellsOf}
 use Rattle.mesh.specs.Distances.{Carried}
 use Rattle.mesh.specs.Lent.{Slice}
-use Rattle.mesh.specs.Records.{owner_at, neighbour_at, centre, face_at}
+use Rattle.mesh.specs.Mesh.{Bounds}
+use Rattle.mesh.specs.Records.{owner_at, neighbour_at, centre, face_at, peer_at, translation_at}
+use Rattle.vector.specs.Vector.{difference}
 use Rattle.chain.specs.Search.{every_of}
 use Rattle.mesh.specs.declared.Counts.{Counts}
 use Rattle.mesh.specs.declared.Face.{Face}
@@ -48,6 +50,13 @@ span_to m f other = span_of (face_at m.adjacency m.geometry f) m.places other
 -- the face f between its two cells
 abbrev pub span : Grid → ℕ → Span
 span m f = span_to m f (centre m.places (other_cell m f))
+
+-- what lies beyond the linked face f: the owner of its peer, whose centre is seen from this side
+abbrev pub peer_cell : Grid → Bounds → ℕ → ℕ
+peer_cell m k f = own_cell m (peer_at k.codes f - 1)
+
+abbrev pub linked_span : Grid → Bounds → ℕ → Span
+linked_span m k f = span_to m f (difference (centre m.places (peer_cell m k f)) (translation_at k.values f))
 
 -- a field's numbers at the owner of f and at the cell n
 abbrev pub pair_at : Grid → List Float → ℕ → ℕ → Pair

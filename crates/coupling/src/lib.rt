@@ -5,9 +5,10 @@
 
 ghost use Rattle.std.specs.Prelude.{◌≡◌};
 ghost use Rattle.coupling.specs.Cell.{inverse_diagonal, corrected_velocity, stands, divergence};
-ghost use Rattle.coupling.specs.Face.{face_response, projected, positive, internal_coefficient, linked_coefficient, fixed_coefficient, mixed, predicted, predicted_flux, corrected_flux};
+ghost use Rattle.coupling.specs.Grid.{grid_of_lent, grid_sized};
+ghost use Rattle.coupling.specs.Face.{interpolated, projected, positive, internal_coefficient, linked_coefficient, fixed_coefficient, mixed, predicted, predicted_flux, corrected_flux};
 
-use mesh::Outcome;
+use mesh::{Grid, Outcome};
 use refusal::Reason;
 use vector::Vec3;
 
@@ -20,7 +21,7 @@ pub struct Span {
     pub other: Vec3,
 }
 
-// A number of each side: their distances from the face's centre, or their responses.
+// A number of each side: their distances from the face's centre, or the values of a field.
 #[derive(Clone, Copy)]
 pub struct Pair {
     pub owner: f64,
@@ -36,12 +37,12 @@ pub struct Side {
     pub response: f64,
 }
 
-// The response at the face; d are the distances, r the responses.
-#[tactic(auto, unfolding(crate::specs::Face::face_response))]
-pub fn face_response(d: Pair, r: Pair) -> f64
-    ensures { result ≡ face_response d r }
+// The value at the face of a field that is v on its two sides, at these distances.
+#[tactic(auto, unfolding(crate::specs::Face::interpolated))]
+pub fn interpolated(d: Pair, v: Pair) -> f64
+    ensures { result ≡ interpolated d v }
 {
-    (d.other * r.owner + d.owner * r.other) / (d.owner + d.other)
+    (d.other * v.owner + d.owner * v.other) / (d.owner + d.other)
 }
 
 // A response times the area projected onto d, over its length.
@@ -75,7 +76,7 @@ pub fn internal_coefficient(s: Span, d: Pair, r: Pair) -> Outcome
     if !binary64::far(d.owner + d.other) {
         return Err(Reason::TooNear);
     }
-    positive(projected(face_response(d, r), s.area, away))
+    positive(projected(interpolated(d, r), s.area, away))
 }
 
 // The coefficient of a linked face, likewise.
@@ -83,7 +84,7 @@ pub fn internal_coefficient(s: Span, d: Pair, r: Pair) -> Outcome
 pub fn linked_coefficient(s: Span, d: Pair, r: Pair) -> Outcome
     ensures { result ≡ linked_coefficient s d r }
 {
-    let response = face_response(d, r);
+    let response = interpolated(d, r);
     positive(projected(response, s.area, s.other.sub(s.owner)))
 }
 
@@ -190,4 +191,15 @@ pub fn divergence(outflow: f64, volume: f64) -> Outcome
     } else {
         Err(Reason::BadCoefficient)
     }
+}
+
+// Check 2, of adjacency, geometry and places. Each check writes out the slices that it is lent: a part shared with the
+// checks of `mesh` or of `step` would want a definition of its own, and be no plainer.
+pub fn is_grid_sized(grid: &Grid<'_>) -> bool
+    ensures { result ≡ grid_sized grid.now.counts (grid_of_lent grid.now) }
+{
+    let counts = grid.counts;
+    mesh::is_sized(grid.adjacency.len(), 2, counts.faces)
+        & mesh::is_sized(grid.geometry.len(), 11, counts.faces)
+        & mesh::is_sized(grid.places.len(), 4, counts.cells)
 }

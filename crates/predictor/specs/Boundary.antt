@@ -7,14 +7,14 @@ use Rattle.mesh.specs.Answers.{pass, first_of, or_else, Answer, Outcome, accepte
 use Rattle.mesh.specs.Checks.{sizes_ok}
 use Rattle.mesh.specs.Mesh.{Bounds, Conditions, bounds_of, conditions_sized, grid_links}
 use Rattle.mesh.specs.Pass.{values_of, handed_out, if_refused}
-use Rattle.mesh.specs.Records.{neighbour_at, peer_at, face_centre, face_area, centre, translation_at, condition_at}
+use Rattle.mesh.specs.Records.{neighbour_at, peer_at, face_centre, face_area, centre, condition_at}
 use Rattle.vector.specs.Vector.{difference}
 use Rattle.mesh.specs.declared.Condition.{Condition}
 use Rattle.mesh.specs.declared.Condition.TheVariants.{Absent, Fixed, ZeroGradient}
 use Rattle.mesh.specs.declared.Counts.{Counts}
 use Rattle.coupling.specs.Face.{distances, linked_coefficient, fixed_coefficient}
 use Rattle.predictor.specs.Coefficients.{internal_at, coefficient_answer, coefficients}
-use Rattle.coupling.specs.Grid.{Grid, Field, own_cell, span_to, pair_at, grid_sized}
+use Rattle.coupling.specs.Grid.{Grid, Field, own_cell, peer_cell, linked_span, pair_at, grid_sized}
 use Rattle.passes.specs.Staged.{two_refusals}
 
 -- at a face without a link a fixed value has a coefficient; a zero gradient, and an absent condition, have none
@@ -28,9 +28,8 @@ by_condition m responses f Absent = Ok zero64
 -- the other cell of a linked face is the peer's owner, seen from this side
 unfoldable pub linked_at : Grid → Bounds → List Float → ℕ → Outcome
 linked_at m k responses f =
-    let n = own_cell m (peer_at k.codes f - 1) in
-    let s = span_to m f (difference (centre m.places n) (translation_at k.values f)) in
-    linked_coefficient s (distances s) (pair_at m responses f n)
+    let s = linked_span m k f in
+    linked_coefficient s (distances s) (pair_at m responses f (peer_cell m k f))
 
 -- a face with one cell: its link is looked at before its condition
 unfoldable pub boundary_at : Grid → Bounds → List Float → ℕ → Outcome

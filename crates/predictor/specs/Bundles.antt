@@ -13,7 +13,7 @@ slopes_of s = gradients (slices_of s.stencil) s.stencil.records s.field.now (len
 
 -- with a gradient of the pressure
 abbrev pub flow_with : Momentum → List Float → Flow
-flow_with m gradient = flow m.velocity.now m.slope.field.now gradient m.coupling.responses.now
+flow_with m gradient = flow m.velocity.now m.slope.field.now gradient m.coupling.values.now
 
 abbrev pub flow_of_lent : LentFlow → Flow
-flow_of_lent q = flow q.velocity.now q.pressure.now q.gradient.now q.coupling.responses.now
+flow_of_lent q = flow q.velocity.now q.pressure.now q.gradient.now q.coupling.values.now

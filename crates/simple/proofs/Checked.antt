@@ -5,19 +5,17 @@ use Rattle.mesh.specs.Pass.{if_refused}
 use mathlib.Core.Path.{◌≡◌, refl, sym, ◌∙◌}
 use mathlib.Core.List.{List}
 use mathlib.Core.Bool.{true, ◌&&◌}
-use Prim.Native.Nat.{ℕ, ◌*◌, ◌≤◌, ◌<◌}
+use Prim.Native.Nat.{ℕ, ◌*◌, ◌≤◌}
 use native.Mathlib.Omega.{arith}
 use lib.Dec.{eqb}
 use lib.ListN.{length}
 use lib.Ieee.{Float}
 use borrow.Author.Tests.{eqb-true}
 use Rattle.mesh.specs.Checks.{largest_count}
-use Rattle.mesh.specs.Facts.{FacesIn, GridSized}
 use Rattle.mesh.specs.Mesh.{Conditions, bounds_of, conditions_sized}
 use Rattle.mesh.specs.declared.Counts.{Counts}
 use Rattle.mesh.proofs.Facts.{all_accepted, passed, small, peer_below}
-use Rattle.mesh.proofs.Good.{sides_passed, links_passed, grid_sides_passed, grid_with_equations_passed, grid_links_passed}
-use Rattle.mesh.specs.Distances.{Carried}
+use Rattle.mesh.proofs.Good.{sides_passed, links_passed, grid_with_equations_passed}
 use Rattle.chain.proofs.Truth.{and_true, every_at}
 use Rattle.numerics.specs.Slices.{Slices, lengths_of, stencil_sized}
 use Rattle.numerics.specs.Gradient.{Sloped}
@@ -25,11 +23,13 @@ use Rattle.numerics.specs.Outflow.{Flows}
 use Rattle.numerics.proofs.Flows.{flows_by}
 use Rattle.numerics.proofs.Slopes.{slopes_by}
 use Rattle.predictor.specs.Boundary.{Bounded, boundary_checks}
+use Rattle.predictor.proofs.Linked.{links_coupled}
 use Rattle.predictor.specs.Coefficients.{coefficient_checks}
 use Rattle.simple.specs.Corrected.{Fields, correction_sizes, correction_checks}
 use Rattle.corrector.specs.Correction.{CorrectableFaces}
 use Rattle.corrector.specs.Diagonal.{diagonal_checks}
-use Rattle.coupling.specs.Grid.{Grid, Field, Coupled, grid_sizes, grid_sized}
+use Rattle.coupling.specs.Grid.{Grid, Field, Coupled, grid_sized}
+use Rattle.coupling.proofs.Coupled.{gridded, coupled, coupled_by, sides_coupled}
 use Rattle.corrector.specs.Metrics.{metrics_sizes, metrics_checks}
 use Rattle.predictor.specs.Prediction.{FlowFields, sizes_of, flow_sizes, flow_sized, prediction_checks}
 use Rattle.corrector.specs.Velocity.{velocity_sizes, velocity_checks}
@@ -62,36 +62,13 @@ velocity_passed n velocity responses gradient outs h =
 
 -- ---- faces and their cells
 
-pub gridded : (n : Counts) (m : Grid) → grid_sized n m ≡ true → GridSized n m.adjacency m.geometry m.places
-gridded n m h =
-    let w = every_at (grid_sizes n m) h in
-    record { adjacency = eqb-true _ _ (w 0); geometry = eqb-true _ _ (w 1); places = eqb-true _ _ (w 2) }
-
-coupled : (n : Counts) (m : Grid) → GridSized n m.adjacency m.geometry m.places → FacesIn n.cells m.adjacency
-    → ((f : ℕ) → f < n.faces → Carried m.adjacency m.geometry m.places f) → Coupled m n.cells n.faces
-coupled n m z faces carried =
-    let a = z.adjacency in
-    record {
-      adjacency = a;
-      geometry = z.geometry;
-      places = z.places;
-      sides = λ f l. faces f (omega (arith, a, l));
-      carried = carried;
-    }
-
--- by the length that is at hand
-coupled_by : (m : Grid) (cells faces c : ℕ) → c ≡ cells → Coupled m cells faces → Coupled m c faces
-coupled_by m cells faces c e g = rw e g
-
 pub coefficients_passed : (n : Counts) (m : Grid) (responses : Field) (outs : ℕ) → coefficient_checks n m responses outs ≡ accepted → Coupled m (length responses.values) n.faces × (outs ≡ n.faces)
 unfolding coefficient_checks
 coefficients_passed n m responses outs h =
     let s = all_accepted _ h in
     let w = and_true (grid_sized n m && eqb (length responses.values) n.cells) (eqb outs n.faces) (passed WrongLength _ (s 1)) in
     let v = and_true (grid_sized n m) (eqb (length responses.values) n.cells) w.0 in
-    let z = gridded n m v.0 in
-    let sides = grid_sides_passed n m.adjacency m.geometry m.places z (s 3) in
-    (coupled_by m n.cells n.faces (length responses.values) (eqb-true _ _ v.1) (coupled n m z sides.0 sides.1), eqb-true _ _ w.1)
+    (coupled_by m n.cells n.faces (length responses.values) (eqb-true _ _ v.1) (sides_coupled n m v.0 (s 3)), eqb-true _ _ w.1)
 
 -- ---- with conditions and links
 
@@ -103,15 +80,8 @@ boundary_passed n m k responses outs h =
     let s = all_accepted _ h in
     let w = and_true (grid_sized n m && bound && eqb (length responses.values) n.cells) (eqb outs n.faces) (passed WrongLength _ (s 1)) in
     let v = and_true (grid_sized n m && bound) (eqb (length responses.values) n.cells) w.0 in
-    let u = and_true (grid_sized n m) bound v.0 in
-    let t = and_true (eqb (length k.codes) (2 * n.faces)) (eqb (length k.values) (4 * n.faces)) u.1 in
-    let codes : length k.codes ≡ 2 * n.faces = eqb-true _ _ t.0 in
-    let z = gridded n m u.0 in
-    let linked = grid_links_passed n m.adjacency m.geometry m.places k.codes z (s 3) in (
-      coupled_by m n.cells n.faces (length responses.values) (eqb-true _ _ v.1) (coupled n m z linked.0 linked.2),
-      record { codes = codes; values = eqb-true _ _ t.1; peers = λ f l. peer_below m.adjacency k.codes n.faces f codes (linked.1 f (omega (arith, codes, l))) },
-      eqb-true _ _ w.1,
-    )
+    let linked = links_coupled n m k v.0 (s 3) in
+    (coupled_by m n.cells n.faces (length responses.values) (eqb-true _ _ v.1) linked.0, linked.1, eqb-true _ _ w.1)
 
 pub record Corrected (n : Counts) (adjacency : List ℕ) (k : Conditions) (l : Fields) (outs : ℕ) : Type 0 where
   pub correctable : CorrectableFaces n.faces adjacency k.codes k.values l.coefficients.values l.correction.values

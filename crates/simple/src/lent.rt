@@ -2,12 +2,12 @@
 ghost use Rattle.std.specs.Prelude.{◌≡◌};
 ghost use Rattle.mesh.specs.Bundles.{conditions_of, bounds_in};
 ghost use Rattle.corrector.specs.Correction.{CorrectableFaces};
-ghost use Rattle.coupling.specs.Grid.{grid_of_lent, grid_sized, field_of};
+ghost use Rattle.coupling.specs.Grid.{field_of};
 ghost use Rattle.predictor.specs.Prediction.{sizes_of, flow_sized};
 ghost use Rattle.simple.specs.Bundles.{flow_fields_of};
 
 use corrector::inner::correction::Correction;
-use mesh::{Conditions, Counts, Faces, Field, Grid};
+use mesh::{Conditions, Counts, Faces, Field};
 
 // What a flux is predicted from: of the cells the velocity, the pressure and the response, and of the
 // faces the wall fluxes.
@@ -49,17 +49,6 @@ impl<'a> Corrections<'a> {
             values: self.correction.values,
         }
     }
-}
-
-// Check 2, of adjacency, geometry and places. Each check writes out the slices that it is lent: a part shared with the
-// checks of `mesh` or of `step` would want a definition of its own, and be no plainer.
-pub(crate) fn is_grid_sized(grid: &Grid<'_>) -> bool
-    ensures { result ≡ grid_sized grid.now.counts (grid_of_lent grid.now) }
-{
-    let counts = grid.counts;
-    mesh::is_sized(grid.adjacency.len(), 2, counts.faces)
-        & mesh::is_sized(grid.geometry.len(), 11, counts.faces)
-        & mesh::is_sized(grid.places.len(), 4, counts.cells)
 }
 
 impl<'a> FlowFields<'a> {

@@ -55,7 +55,7 @@ fn check_coefficients(grid: &Grid<'_>, responses: &Field<'_>, outs: usize) -> An
         result ≡ coefficient_checks grid.now.counts m (field_of responses.now) outs }
 {
     let counts = grid.counts;
-    let sized = lent::is_grid_sized(grid)
+    let sized = coupling::is_grid_sized(grid)
         & (responses.values.len() == counts.cells)
         & (outs == counts.faces);
     let same = responses.number == counts.mesh;
@@ -73,7 +73,7 @@ pub fn pressure_face_coefficients(grid: &Grid<'_>, responses: &Field<'_>, out: &
     check_coefficients(grid, responses, out.len())?;
     let coupling = Coupling {
         grid: *grid,
-        responses: responses.values,
+        values: responses.values,
     };
     coupling.pressure_face_coefficients(out)
 }
@@ -90,7 +90,7 @@ fn check_boundary(
         result ≡ boundary_checks grid.now.counts m k (field_of responses.now) outs }
 {
     let counts = grid.counts;
-    let sized = lent::is_grid_sized(grid)
+    let sized = coupling::is_grid_sized(grid)
         & conditions.is_sized(counts.faces)
         & (responses.values.len() == counts.cells)
         & (outs == counts.faces);
@@ -116,7 +116,7 @@ pub fn pressure_face_coefficients_with_boundary<'a>(
     check_boundary(grid, conditions, responses, out.len())?;
     let coupling = Coupling {
         grid: *grid,
-        responses: responses.values,
+        values: responses.values,
     };
     let boundary = Boundary {
         coupling,
@@ -139,7 +139,7 @@ fn check_prediction(
         result ≡ prediction_checks grid.now.counts m s.number s.records (slices_of s) l slopes outs }
 {
     let counts = grid.counts;
-    let sized = lent::is_grid_sized(grid)
+    let sized = coupling::is_grid_sized(grid)
         & stencil.is_sized(counts.cells)
         & fields.are_sized(counts, slopes, outs);
     let same = (stencil.number == counts.mesh)
@@ -172,7 +172,7 @@ pub fn rhie_chow_predicted_flux(
     check_prediction(grid, stencil, fields, gradient.len(), out.len())?;
     let coupling = Coupling {
         grid: *grid,
-        responses: fields.responses.values,
+        values: fields.responses.values,
     };
     let slope = Slope {
         stencil: *stencil,
@@ -306,7 +306,7 @@ pub fn correct_cell_velocity_from_gradient(
     check_velocity(counts, velocity, responses, gradient, out.len())?;
     let velocity = Velocity {
         values: velocity.values,
-        responses: responses.values,
+        values: responses.values,
         gradient: gradient.values,
     };
     velocity.correct_cell_velocity_from_gradient(out)

@@ -59,11 +59,11 @@ impl<'a> Work<'a> {
 
     fn coupling(&self) -> Coupling<'a>
         ensures grid { result.grid ≡ grid_in self.now.mesh }
-        ensures responses { result.responses ≡ self.now.fields.responses.values }
+        ensures responses { result.values ≡ self.now.fields.responses.values }
     {
         Coupling {
             grid: self.mesh.grid(),
-            responses: self.fields.responses.values,
+            values: self.fields.responses.values,
         }
     }
 

@@ -34,6 +34,9 @@ sum a b = vec (a.x ⊕ b.x) (a.y ⊕ b.y) (a.z ⊕ b.z)
 unfoldable pub difference : Vec3 → Vec3 → Vec3
 difference a b = vec (a.x ⊖ b.x) (a.y ⊖ b.y) (a.z ⊖ b.z)
 
+unfoldable pub negated : Vec3 → Vec3
+negated a = vec (neg a.x) (neg a.y) (neg a.z)
+
 unfoldable pub scaled : Vec3 → Float → Vec3
 scaled a s = vec (a.x ⊗ s) (a.y ⊗ s) (a.z ⊗ s)
 
@@ -53,3 +56,7 @@ vectors_of h (suc n) = vectors_of h n ++ ((h n).x ∷ (h n).y ∷ (h n).z ∷ []
 
 abbrev pub put_vector : List Float → ℕ → Vec3 → List Float
 put_vector l i v = set (set (set l (3 * i) v.x) (3 * i + 1) v.y) (3 * i + 2) v.z
+
+-- and with one added to that in its place
+abbrev pub add_vector : List Float → ℕ → Vec3 → List Float
+add_vector l i v = put_vector l i (sum (vector_at l (3 * i)) v)

@@ -1,6 +1,6 @@
 // Vectors read and written, for callers that know that there is room.
 ghost use Rattle.std.specs.Prelude.{◌≡◌, ◌+◌, ◌*◌, ◌<◌, length};
-ghost use Rattle.vector.specs.Vector.{vector_at, put_vector};
+ghost use Rattle.vector.specs.Vector.{vector_at, put_vector, add_vector};
 
 use crate::Vec3;
 
@@ -25,4 +25,13 @@ pub fn put_vector(out: &mut [f64], i: usize, v: Vec3)
     out[b] = v.x;
     out[b + 1] = v.y;
     out[b + 2] = v.z;
+}
+
+// Adds to the vector i of such a slice.
+pub fn add_vector(out: &mut [f64], i: usize, v: Vec3)
+    requires { 3 * i + 2 < length out.old }
+    ensures { out.new ≡ add_vector out.old i v }
+{
+    let sum = vector_at(out, 3 * i).add(v);
+    put_vector(out, i, sum);
 }

@@ -2,7 +2,7 @@
 #![tactic(auto)]
 
 ghost use Rattle.std.specs.Prelude.{◌≡◌};
-ghost use Rattle.vector.specs.Vector.{dot, greater, longest, norm, norm_squared, sum, difference, scaled, quotient};
+ghost use Rattle.vector.specs.Vector.{dot, greater, longest, norm, norm_squared, sum, difference, negated, scaled, quotient};
 
 pub mod inner;
 
@@ -74,6 +74,17 @@ impl Vec3 {
             x: self.x - other.x,
             y: self.y - other.y,
             z: self.z - other.z,
+        }
+    }
+
+    #[tactic(auto, unfolding(crate::specs::Vector::negated))]
+    pub fn neg(self) -> Vec3
+        ensures { result ≡ negated self }
+    {
+        Vec3 {
+            x: -self.x,
+            y: -self.y,
+            z: -self.z,
         }
     }
 

@@ -14,12 +14,13 @@ use mesh::{Answer, Face, Grid, Outcome};
 use passes::settle;
 use vector::Vec3;
 
-// A mesh that passed the checks, and the responses of its cells.
+// A mesh that passed the checks, and a field of its cells: the responses, of which coefficients are made, or another,
+// which is interpolated.
 #[derive(Clone, Copy)]
 pub struct Coupling<'a> {
     pub grid: Grid<'a>,
-    pub responses: &'a [f64],
-    pub ghost coupled: { Coupled (grid_of_lent grid) (length responses.now) grid.counts.faces },
+    pub values: &'a [f64],
+    pub ghost coupled: { Coupled (grid_of_lent grid) (length values.now) grid.counts.faces },
 }
 
 // A face with its owner's centre, and a centre on its other side.
@@ -78,7 +79,7 @@ impl<'a> Coupling<'a> {
 
     // How far it is from both.
     #[tactic(auto, unfolding(coupling::specs::Face::distances))]
-    pub(crate) fn distances(&self, f: usize) -> Pair
+    pub fn distances(&self, f: usize) -> Pair
         requires face { f < self.now.grid.counts.faces }
         requires two_cells { neighbour_at self.now.grid.adjacency.now f ≡ 0 → ⊥ }
         ensures { result ≡ distances (span (grid_of_lent self.now.grid) f) }
@@ -96,7 +97,7 @@ impl<'a> Coupling<'a> {
         ensures owner { result.owner ≡ own_cell (grid_of_lent self.now.grid) f }
         ensures span { result.span ≡ span (grid_of_lent self.now.grid) f }
         ensures responses { let m = grid_of_lent self.now.grid in
-            result.responses ≡ pair_at m self.now.responses.now f n }
+            result.responses ≡ pair_at m self.now.values.now f n }
     {
         let places = self.grid.places;
         let face = self.grid.face_at(f);
@@ -104,7 +105,7 @@ impl<'a> Coupling<'a> {
         Joint {
             owner: face.owner,
             span: span_to(face, places, other.center),
-            responses: pair_at(self.responses, face.owner, n),
+            responses: pair_at(self.values, face.owner, n),
         }
     }
 
@@ -113,7 +114,7 @@ impl<'a> Coupling<'a> {
     pub fn internal_at(&self, f: usize) -> Outcome
         requires f_lt_faces { f < self.now.grid.counts.faces }
         ensures answer { let m = grid_of_lent self.now.grid in
-            result ≡ internal_at m self.now.responses.now f }
+            result ≡ internal_at m self.now.values.now f }
     {
         let Some(n) = self.grid.neighbour(f) else {
             return Ok(0.0);
@@ -126,10 +127,10 @@ impl<'a> Coupling<'a> {
     pub fn pressure_face_coefficients(&self, out: &mut [f64]) -> Answer
         requires { length out.old ≡ self.now.grid.counts.faces }
         ensures answer { let m = grid_of_lent self.now.grid in
-            result ≡ coefficient_answer m self.now.responses.now self.now.grid.counts.faces }
+            result ≡ coefficient_answer m self.now.values.now self.now.grid.counts.faces }
         ensures contents { let m = grid_of_lent self.now.grid in
             let n = self.now.grid.counts.faces in
-            out.new ≡ handed_out result n (coefficients m self.now.responses.now n) }
+            out.new ≡ handed_out result n (coefficients m self.now.values.now n) }
     {
         let answer = passes::fill(out, |f, _| self.internal_at(f));
         settle(out, answer)

@@ -22,7 +22,7 @@ pub struct Momentum<'s, 'a> {
     pub velocity: &'a [f64],
     pub walls: &'a [f64],
     pub ghost sized: { (length velocity.now ≡ 3 * length slope.field.now)
-        × (length coupling.responses.now ≡ length slope.field.now)
+        × (length coupling.values.now ≡ length slope.field.now)
         × (length walls.now ≡ coupling.grid.counts.faces) },
 }
 
@@ -36,7 +36,7 @@ pub struct Flow<'s, 'a> {
     pub walls: &'a [f64],
     pub ghost sized: { (length velocity.now ≡ 3 * length pressure.now)
         × (length gradient.now ≡ 3 * length pressure.now)
-        × (length coupling.responses.now ≡ length pressure.now)
+        × (length coupling.values.now ≡ length pressure.now)
         × (length walls.now ≡ coupling.grid.counts.faces) },
 }
 
@@ -55,7 +55,7 @@ impl<'s, 'a> Flow<'s, 'a> {
             velocity: vector_at(self.velocity, b),
             gradient: vector_at(self.gradient, b),
             pressure: self.pressure[c],
-            response: self.coupling.responses[c],
+            response: self.coupling.values[c],
         }
     }
 
@@ -68,7 +68,7 @@ impl<'s, 'a> Flow<'s, 'a> {
             let q = flow_of_lent self.now in
             result ≡ staged (internal_at m q.responses f) (predicted_at m q self.now.walls.now f) }
         ensures stored { let m = grid_of_lent self.now.coupling.grid in
-            internal.new ≡ stored_at internal.old f (internal_at m self.now.coupling.responses.now f) }
+            internal.new ≡ stored_at internal.old f (internal_at m self.now.coupling.values.now f) }
     {
         let Some(n) = self.coupling.grid.neighbour(f) else {
             store(internal, f, 0.0);
@@ -94,7 +94,7 @@ impl<'s, 'a> Flow<'s, 'a> {
             let walls = self.now.walls.now in
             Passes (prediction_answer m q walls) (predicted_fluxes m q walls) result out.new }
         ensures coefficients { let m = grid_of_lent self.now.coupling.grid in
-            let w = self.now.coupling.responses.now in
+            let w = self.now.coupling.values.now in
             let n = length self.now.walls.now in
             Fills (length internal.old) n (coefficients m w n) result internal.new }
     {
@@ -118,7 +118,7 @@ impl<'s, 'a> Flow<'s, 'a> {
             let walls = self.now.walls.now in
             out.new ≡ handed_out result (length walls) (predicted_fluxes m (flow_of_lent self.now) walls) }
         ensures coefficients { let m = grid_of_lent self.now.coupling.grid in
-            let w = self.now.coupling.responses.now in
+            let w = self.now.coupling.values.now in
             let n = length self.now.walls.now in
             Fills (length internal.old) n (coefficients m w n) result internal.new }
     {
@@ -152,7 +152,7 @@ impl<'s, 'a> Momentum<'s, 'a> {
             out.new ≡ handed_out result (length walls) (predicted_fluxes m q walls) }
         ensures coefficients { let m = grid_of_lent self.now.coupling.grid in
             let n = length self.now.walls.now in
-            Fills (length internal.old) n (coefficients m self.now.coupling.responses.now n) result internal.new }
+            Fills (length internal.old) n (coefficients m self.now.coupling.values.now n) result internal.new }
     {
         self.slope.least_squares_gradient(gradient);
         let flow = Flow {

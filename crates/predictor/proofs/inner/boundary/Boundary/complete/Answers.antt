@@ -9,7 +9,7 @@ pub returns : goal.returns
 unfolding or_else
 returns c =
     let b = c.args.self.now in
-    let g = coefficient_at (grid_of_lent b.coupling.grid) (bounds_of_lent b.bounds) b.coupling.responses.now in
+    let g = coefficient_at (grid_of_lent b.coupling.grid) (bounds_of_lent b.bounds) b.coupling.values.now in
     record {
       passes = rw (← c.requires.out_len, c.requires.begun.0) (c.fill.ensures.fills g (λ i r l p. search rules));
     }

@@ -8,5 +8,5 @@ use Rattle.predictor.proofs.inner.boundary.Boundary.fill.Given as goal
 abbrev pub invariant-loop-f : goal.invariant-loop-f
 invariant-loop-f l =
     let m = grid_of_lent l.self.coupling.grid in
-    let w = l.self.coupling.responses.now in
+    let w = l.self.coupling.values.now in
     Both (internal_at m w) (coefficient_at m (bounds_of_lent l.self.bounds) w) l.self.coupling.grid.counts.faces l.out l.late l.f

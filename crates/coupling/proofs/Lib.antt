@@ -1,0 +1,2 @@
+-- What the checks establish of a grid.
+pub mod Coupled

@@ -1,4 +1,4 @@
--- The list of a pass's values, read at one item. Assumes nothing.
+-- The list of a pass's values, read at one item, and what a call leaves that is accepted. Assumes nothing.
 use Rattle.mesh.specs.Answers.{Answer, Outcome, accepted}
 use Rattle.std.specs.Prelude.{Ok, Err}
 use mathlib.Core.Path.{◌≡◌, refl, sym, ap, ◌∙◌, subst}
@@ -10,7 +10,7 @@ use native.Mathlib.Omega.{arith}
 use lib.ListN.{length, get_or, length-append, get_or-append}
 use lib.Seq.{get_or_at}
 use lib.Ieee.{Float, nan}
-use Rattle.mesh.specs.Pass.{after, first_refusal, value_of, list_of, values_of}
+use Rattle.mesh.specs.Pass.{after, first_refusal, value_of, list_of, values_of, if_refused}
 
 pub length-list_of : (h : ℕ → Float) (n : ℕ) → length (list_of h n) ≡ n
 unfolding list_of
@@ -48,3 +48,8 @@ unfolding value_of
 value_at g n i h l =
     let w = value_below g n i h l in
     (w.0, w.1, get_or-list_of (λ (j : ℕ). value_of (g j)) n i l ∙ ap value_of w.1)
+
+-- where the checks pass, a slice is what the work leaves
+pub if_accepted : {A : Type 0} → (a : Answer) (old new : A) → a ≡ accepted → if_refused a old new ≡ new
+unfolding if_refused
+if_accepted a old new h = rw h

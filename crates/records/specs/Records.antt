@@ -1,6 +1,7 @@
 -- Numbers as records of three. Definitions only.
-use Rattle.mesh.specs.Answers.{Answer}
-use Rattle.std.specs.Prelude.{◌≡◌, List, [], ◌∷◌, ◌++◌, ℕ, zero, suc, ◌+◌, ◌*◌, ◌<◌, length, get_or, Float}
+use Rattle.refusal.specs.declared.Reason.TheVariants.{WrongLength}
+use Rattle.mesh.specs.Answers.{pass, Answer}
+use Rattle.std.specs.Prelude.{◌≡◌, List, [], ◌∷◌, ◌++◌, ℕ, zero, suc, ◌+◌, ◌*◌, ◌<◌, eqb, length, get_or, Float}
 use Rattle.mesh.specs.Pass.{if_refused}
 use Rattle.mesh.specs.declared.Counts.{Counts}
 use Rattle.numerics.specs.Slices.{Slices}
@@ -27,7 +28,7 @@ Numbered = (l : List Float) (i : ℕ) → 3 * i + 2 < length l → get_or (vecto
 abbrev pub Regrouped : Type 0
 Regrouped = (h : ℕ → Vec3) (n : ℕ) → vectors (vectors_of h n) ≡ records_of h n
 
--- ---- the entry
+-- ---- the entries
 
 -- the answer, and what the output holds after the call: untouched where a check refuses, else the records of the number form
 pub record RecordsCall
@@ -41,3 +42,8 @@ pub record RecordsCall
     (new : List Vec3) : Type 0 where
   pub answer : r ≡ gradient_checks n stencil records s number field (3 * length old)
   pub out : new ≡ if_refused r old (vectors (gradients s records field n.cells))
+
+-- of any numbers: 2 where they are not three a record
+pub record HandedCall (numbers : List Float) (old : List Vec3) (r : Answer) (new : List Vec3) : Type 0 where
+  pub answer : r ≡ pass WrongLength (eqb (length numbers) (3 * length old))
+  pub out : new ≡ if_refused r old (vectors numbers)

@@ -1,16 +1,19 @@
-// Gradients handed out as a lent slice of records: a thin function over the number form of `numerics`.
+// Gradients handed out as a lent slice of records: one that is formed as numbers, whichever it is, and that of a stencil,
+// formed as records at once, a thin function over the number form of `numerics`.
 // Counts, stencil and field are lent apart, as there.
 #![tactic(auto)]
 
 ghost use Rattle.std.specs.Prelude.{◌≡◌, ◌*◌};
 ghost use Rattle.numerics.specs.Bundles.{slices_of};
 ghost use Rattle.numerics.specs.Gradient.{gradient_checks};
-ghost use Rattle.records.specs.Records.{RecordsCall};
+ghost use Rattle.records.specs.Records.{RecordsCall, HandedCall};
 
 use mesh::{Answer, Counts, Field};
 use numerics::Stencil;
 use numerics::inner::gradient::Slope;
+use refusal::Reason;
 use vector::Vec3;
+use vector::inner::vector_at;
 
 // The checks of the number form; `outs` is how many records the output has.
 #[tactic(auto, using(crate::proofs::Records::eqb_thrice))]
@@ -41,6 +44,19 @@ pub fn least_squares_gradient(
     };
     for (c, gradient) in out.iter_mut().enumerate() {
         *gradient = slope.gradient_at(c);
+    }
+    Ok(())
+}
+
+// The numbers of a gradient as records, three of them each.
+#[tactic(auto, using(crate::proofs::Records::three_each, crate::proofs::Records::handed), unfolding(mesh::specs::Pass::if_refused))]
+pub fn hand_out(numbers: &[f64], out: &mut [Vec3]) -> Answer
+    ensures call { HandedCall numbers.now out.old result out.new }
+{
+    let sized = mesh::is_sized(numbers.len(), 3, out.len());
+    mesh::pass(Reason::WrongLength, sized)?;
+    for (i, record) in out.iter_mut().enumerate() {
+        *record = vector_at(numbers, 3 * i);
     }
     Ok(())
 }

@@ -1,7 +1,6 @@
 -- What the checks of each entry establish. Assumes nothing.
 use Rattle.refusal.specs.declared.Reason.TheVariants.{BadSize, WrongLength}
-use Rattle.mesh.specs.Answers.{Answer, accepted}
-use Rattle.mesh.specs.Pass.{if_refused}
+use Rattle.mesh.specs.Answers.{accepted}
 use mathlib.Core.Path.{◌≡◌, refl, sym, ◌∙◌}
 use mathlib.Core.List.{List}
 use mathlib.Core.Bool.{true, ◌&&◌}
@@ -33,11 +32,6 @@ use Rattle.coupling.proofs.Coupled.{gridded, coupled, coupled_by, sides_coupled}
 use Rattle.corrector.specs.Metrics.{metrics_sizes, metrics_checks}
 use Rattle.predictor.specs.Prediction.{FlowFields, sizes_of, flow_sizes, flow_sized, prediction_checks}
 use Rattle.corrector.specs.Velocity.{velocity_sizes, velocity_checks}
-
--- where the checks pass, a slice is what the work leaves
-pub if_accepted : (a : Answer) (old new : List Float) → a ≡ accepted → if_refused a old new ≡ new
-unfolding if_refused
-if_accepted a old new h = rw h
 
 -- ---- one cell's number
 

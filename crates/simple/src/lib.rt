@@ -41,7 +41,7 @@ fn check_diagonal(counts: Counts, diagonal: &[f64], outs: usize) -> Answer
 }
 
 // One over the momentum diagonal of each cell.
-#[tactic(auto, using(mesh::proofs::Facts::refuses, mesh::proofs::Facts::goes_on, crate::proofs::Checked::diagonal_passed, crate::proofs::Checked::if_accepted), unfolding(mesh::specs::Pass::if_refused))]
+#[tactic(auto, using(mesh::proofs::Facts::refuses, mesh::proofs::Facts::goes_on, crate::proofs::Checked::diagonal_passed, mesh::proofs::Values::if_accepted), unfolding(mesh::specs::Pass::if_refused))]
 pub fn momentum_inverse_diagonal(counts: Counts, diagonal: &[f64], out: &mut [f64]) -> Answer
     ensures call { DiagonalCall counts diagonal.now out.old result out.new }
 {
@@ -65,7 +65,7 @@ fn check_coefficients(grid: &Grid<'_>, responses: &Field<'_>, outs: usize) -> An
 }
 
 // The coefficient of each face with two cells; +0.0 at the others.
-#[tactic(auto, using(mesh::proofs::Facts::refuses, mesh::proofs::Facts::goes_on, crate::proofs::Checked::coefficients_passed, crate::proofs::Checked::if_accepted), unfolding(mesh::specs::Pass::if_refused))]
+#[tactic(auto, using(mesh::proofs::Facts::refuses, mesh::proofs::Facts::goes_on, crate::proofs::Checked::coefficients_passed, mesh::proofs::Values::if_accepted), unfolding(mesh::specs::Pass::if_refused))]
 pub fn pressure_face_coefficients(grid: &Grid<'_>, responses: &Field<'_>, out: &mut [f64]) -> Answer
     ensures call { let m = grid_of_lent grid.now in
         CoefficientCall grid.now.counts m (field_of responses.now) out.old result out.new }
@@ -102,7 +102,7 @@ fn check_boundary(
 
 // The coefficient of each face with two cells, with a link, or with a fixed value; +0.0 at the
 // others. The lifetime has a name since a `Boundary` holds mesh and conditions at one.
-#[tactic(auto, using(mesh::proofs::Facts::refuses, mesh::proofs::Facts::goes_on, crate::proofs::Checked::boundary_passed, crate::proofs::Checked::if_accepted), unfolding(mesh::specs::Pass::if_refused))]
+#[tactic(auto, using(mesh::proofs::Facts::refuses, mesh::proofs::Facts::goes_on, crate::proofs::Checked::boundary_passed, mesh::proofs::Values::if_accepted), unfolding(mesh::specs::Pass::if_refused))]
 pub fn pressure_face_coefficients_with_boundary<'a>(
     grid: &Grid<'a>,
     conditions: &Conditions<'a>,
@@ -155,7 +155,7 @@ fn check_prediction(
 
 // The gradient of the pressure from the stencil, and the flux that is predicted with it: of a face
 // with two cells that of Rhie and Chow, of any other the wall flux as lent.
-#[tactic(auto, using(mesh::proofs::Facts::refuses, mesh::proofs::Facts::goes_on, crate::proofs::Checked::prediction_passed, crate::proofs::Checked::if_accepted), unfolding(mesh::specs::Pass::if_refused))]
+#[tactic(auto, using(mesh::proofs::Facts::refuses, mesh::proofs::Facts::goes_on, crate::proofs::Checked::prediction_passed, mesh::proofs::Values::if_accepted), unfolding(mesh::specs::Pass::if_refused))]
 pub fn rhie_chow_predicted_flux(
     grid: &Grid<'_>,
     stencil: &Stencil<'_>,
@@ -220,7 +220,7 @@ fn check_correction(
 
 // The predicted flux of each face less its coefficient times the difference of the corrections on
 // its two sides; an unlinked one-cell zero-gradient face keeps its flux.
-#[tactic(auto, using(mesh::proofs::Facts::refuses, mesh::proofs::Facts::goes_on, crate::proofs::Checked::correction_passed, crate::proofs::Corrected::keeps_promise, crate::proofs::Checked::if_accepted), unfolding(mesh::specs::Pass::if_refused))]
+#[tactic(auto, using(mesh::proofs::Facts::refuses, mesh::proofs::Facts::goes_on, crate::proofs::Checked::correction_passed, crate::proofs::Corrected::keeps_promise, mesh::proofs::Values::if_accepted), unfolding(mesh::specs::Pass::if_refused))]
 pub fn correct_face_flux_with_boundary(
     faces: &Faces<'_>,
     conditions: &Conditions<'_>,
@@ -244,7 +244,7 @@ pub fn correct_face_flux_with_boundary(
 // The same in one slice, which holds the predicted flux before the call and the corrected flux after it.
 // Refused by a check it keeps the predicted flux; refused by arithmetic it is +0.0 throughout. `number` is
 // the mesh number of the flux.
-#[tactic(auto, using(mesh::proofs::Facts::refuses, mesh::proofs::Facts::goes_on, crate::proofs::Checked::correction_passed, crate::proofs::Corrected::keeps_promise, crate::proofs::Checked::if_accepted), unfolding(mesh::specs::Pass::if_refused))]
+#[tactic(auto, using(mesh::proofs::Facts::refuses, mesh::proofs::Facts::goes_on, crate::proofs::Checked::correction_passed, crate::proofs::Corrected::keeps_promise, mesh::proofs::Values::if_accepted), unfolding(mesh::specs::Pass::if_refused))]
 pub fn correct_face_flux_in_place(
     faces: &Faces<'_>,
     conditions: &Conditions<'_>,
@@ -291,7 +291,7 @@ fn check_velocity(
 }
 
 // The velocity of each cell less its response times the gradient.
-#[tactic(auto, using(mesh::proofs::Facts::refuses, mesh::proofs::Facts::goes_on, crate::proofs::Checked::velocity_passed, crate::proofs::Checked::if_accepted), unfolding(mesh::specs::Pass::if_refused))]
+#[tactic(auto, using(mesh::proofs::Facts::refuses, mesh::proofs::Facts::goes_on, crate::proofs::Checked::velocity_passed, mesh::proofs::Values::if_accepted), unfolding(mesh::specs::Pass::if_refused))]
 pub fn correct_cell_velocity_from_gradient(
     counts: Counts,
     velocity: &Field<'_>,
@@ -306,7 +306,7 @@ pub fn correct_cell_velocity_from_gradient(
     check_velocity(counts, velocity, responses, gradient, out.len())?;
     let velocity = Velocity {
         values: velocity.values,
-        values: responses.values,
+        responses: responses.values,
         gradient: gradient.values,
     };
     velocity.correct_cell_velocity_from_gradient(out)
@@ -336,7 +336,7 @@ fn check_metrics(
 }
 
 // The outflow of each cell, and in `metrics` their root mean square and the largest divergence.
-#[tactic(auto, using(mesh::proofs::Facts::refuses, mesh::proofs::Facts::goes_on, crate::proofs::Checked::metrics_passed, crate::proofs::Checked::if_accepted), unfolding(mesh::specs::Pass::if_refused))]
+#[tactic(auto, using(mesh::proofs::Facts::refuses, mesh::proofs::Facts::goes_on, crate::proofs::Checked::metrics_passed, mesh::proofs::Values::if_accepted), unfolding(mesh::specs::Pass::if_refused))]
 pub fn continuity_metrics(
     faces: &Faces<'_>,
     places: &[f64],

@@ -6,8 +6,7 @@ use Prim.Native.Nat.{ℕ, ◌*◌, ◌≤◌}
 use lib.Dec.{eqb, leb}
 use lib.ListN.{length}
 use borrow.Author.Tests.{eqb-true, leb-true}
-use Rattle.mesh.specs.Answers.{Answer, accepted}
-use Rattle.mesh.specs.Pass.{if_refused}
+use Rattle.mesh.specs.Answers.{accepted}
 use Rattle.mesh.specs.Checks.{largest_count, sizes_ok}
 use Rattle.mesh.specs.Mesh.{Mesh, Conditions, mesh_sized, conditions_sized}
 use Rattle.chain.proofs.Truth.{and_true, every_at}
@@ -50,8 +49,3 @@ passed_checks m k records s h =
       };
       small = leb-true records largest_count counts.1;
     }
-
--- what is left where the checks accept
-pub if_accepted : (a : Answer) (old new : Slices) → a ≡ accepted → if_refused a old new ≡ new
-unfolding if_refused
-if_accepted a old new h = rw h

@@ -33,7 +33,7 @@ fn check_stencil(mesh: &Mesh<'_>, conditions: &Conditions<'_>, out: &StencilMut<
 
 // The equations of every cell as chained records, the first record of each cell, and the nine
 // numbers of each inverse.
-#[tactic(auto, using(mesh::proofs::Facts::refuses, mesh::proofs::Facts::goes_on, crate::proofs::Buildable::if_accepted), unfolding(mesh::specs::Pass::if_refused))]
+#[tactic(auto, using(mesh::proofs::Facts::refuses, mesh::proofs::Facts::goes_on, mesh::proofs::Values::if_accepted), unfolding(mesh::specs::Pass::if_refused))]
 pub fn least_squares_stencil(
     mesh: &Mesh<'_>,
     conditions: &Conditions<'_>,

@@ -1,0 +1,17 @@
+use mathlib.Core.Path.{◌∙◌}
+use Rattle.coupling.specs.Grid.{grid_of_lent}
+use Rattle.vector.proofs.Vectors.{replaced_start, replaced_read, replaced_more}
+use Rattle.gauss.specs.Gauss.{gradient_at}
+use Rattle.gauss.proofs.inner.gauss.Gauss.divide.Goals as goal
+
+pub loop-c-init : goal.loop-c-init
+loop-c-init c = replaced_start _ _ _ c.requires.out_len
+
+pub loop-c-preserved : goal.loop-c-preserved
+unfolding gradient_at
+loop-c-preserved c =
+    let m = grid_of_lent c.args.self.now.grid in
+    let read = replaced_read _ _ _ _ _ c.loop-c.invariant in
+    rw c.put_vector.ensures
+    (replaced_more (gradient_at m c.args.out.now) _ c.args.out.now c.loop-c.out c.loop-c.c c.div-gradient.result c.loop-c.invariant c.loop-c-test.true
+    (c.div-gradient.ensures ∙ rw (c.vector_at.ensures, read, c.cell_at-volume.ensures)))

@@ -1,0 +1,3 @@
+pub mod Gauss
+pub mod Pressure
+pub mod Calls

@@ -14,7 +14,7 @@ unfolding sums
 sums_alike m g h cells zero e = refl
 sums_alike m g h cells (suc n) e = rw (e n (omega arith), sums_alike m g h cells n (λ f l. e f (omega (arith, l))))
 
-unconditioned : Unconditioned
+pub unconditioned : Unconditioned
 unfolding face_pressure pressure_without_conditions
 unconditioned m k p cells faces none =
     ap (λ (l : List Float). vectors_of (gradient_at m l) cells)

@@ -1,3 +1,3 @@
 // The work of the entries, for callers that have made the checks.
-pub mod gauss;
+pub mod gradient;
 pub mod pressure;

@@ -6,7 +6,7 @@ ghost use Rattle.mesh.specs.Bundles.{conditions_of};
 ghost use Rattle.coupling.specs.Grid.{grid_of_lent, field_of};
 ghost use Rattle.gauss.specs.Calls.{field_checks, bounded_checks, GaussCall, PressureCall, PressureAloneCall};
 
-use crate::inner::gauss::Gauss;
+use crate::inner::gradient::Gauss;
 use crate::inner::pressure;
 use mesh::{Answer, Conditions, Field, Grid};
 use predictor::inner::boundary::Boundary;
@@ -29,8 +29,8 @@ fn check_field(grid: &Grid<'_>, field: &Field<'_>, items: usize, outs: usize) ->
     grid.check_sides()
 }
 
-// The gradient of each cell, three numbers: the sum over its faces, in their order from +0.0, of the area vector times
-// the face's value, out of the cell, over its volume.
+// The gradient of each cell, three numbers: the sum over its faces, in their order from +0.0, of the area vector out of
+// the cell times the face's value, over the cell's volume. BadVolume comes before any sum.
 #[tactic(auto, using(mesh::proofs::Facts::refuses, mesh::proofs::Facts::goes_on, crate::proofs::Passed::field_passed, mesh::proofs::Values::if_accepted), unfolding(mesh::specs::Pass::if_refused))]
 pub fn gauss_gradient_from_faces(grid: &Grid<'_>, values: &Field<'_>, out: &mut [f64]) -> Answer
     ensures call { let m = grid_of_lent grid.now in
@@ -64,8 +64,8 @@ fn check_bounded(
 }
 
 // That of a pressure: a face between two cells, or linked, has what is interpolated at its distances, a fixed-value face
-// its value, and any other its cell's pressure. The lifetime has a name since a `Boundary` holds mesh and conditions at
-// one.
+// its value, and any other its cell's pressure, so that no condition need be there. The lifetime has a name since a
+// `Boundary` holds mesh and conditions at one.
 #[tactic(auto, using(mesh::proofs::Facts::refuses, mesh::proofs::Facts::goes_on, crate::proofs::Passed::bounded_passed, mesh::proofs::Values::if_accepted), unfolding(mesh::specs::Pass::if_refused))]
 pub fn pressure_coupling_gradient<'a>(
     grid: &Grid<'a>,

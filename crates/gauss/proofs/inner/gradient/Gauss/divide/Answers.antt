@@ -2,7 +2,7 @@ use mathlib.Core.Path.{◌∙◌}
 use Rattle.coupling.specs.Grid.{grid_of_lent}
 use Rattle.vector.proofs.Vectors.{replaced_start, replaced_read, replaced_more}
 use Rattle.gauss.specs.Gauss.{gradient_at}
-use Rattle.gauss.proofs.inner.gauss.Gauss.divide.Goals as goal
+use Rattle.gauss.proofs.inner.gradient.Gauss.divide.Goals as goal
 
 pub loop-c-init : goal.loop-c-init
 loop-c-init c = replaced_start _ _ _ c.requires.out_len

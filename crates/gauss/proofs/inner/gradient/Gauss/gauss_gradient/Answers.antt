@@ -9,7 +9,7 @@ use Rattle.mesh.specs.Pass.{handed_out}
 use Rattle.coupling.specs.Grid.{grid_of_lent}
 use Rattle.vector.specs.Vector.{vectors_of}
 use Rattle.gauss.specs.Gauss.{gradient_at}
-use Rattle.gauss.proofs.inner.gauss.Gauss.gauss_gradient.Goals as goal
+use Rattle.gauss.proofs.inner.gradient.Gauss.gauss_gradient.Goals as goal
 
 pub returns-in_err-settle-clause-contents : goal.returns-in_err-settle-clause-contents
 unfolding handed_out

@@ -4,7 +4,7 @@ use lib.ListN.{length}
 use lib.Ieee.{Float}
 use Rattle.coupling.specs.Grid.{grid_of_lent}
 use Rattle.gauss.specs.Gauss.{sums}
-use Rattle.gauss.proofs.inner.gauss.Gauss.gather.Given as goal
+use Rattle.gauss.proofs.inner.gradient.Gauss.gather.Given as goal
 
 abbrev pub invariant-loop-f : goal.invariant-loop-f
 invariant-loop-f g l = record {

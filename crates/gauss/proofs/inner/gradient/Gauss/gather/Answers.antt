@@ -4,7 +4,7 @@ use native.Mathlib.Numerals.{add-one}
 use lib.ListN.{replicate}
 use Rattle.binary64.specs.Numbers.{zero64}
 use Rattle.gauss.specs.Gauss.{sums}
-use Rattle.gauss.proofs.inner.gauss.Gauss.gather.Goals as goal
+use Rattle.gauss.proofs.inner.gradient.Gauss.gather.Goals as goal
 
 pub loop-f-init : goal.loop-f-init
 unfolding sums

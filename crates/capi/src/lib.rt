@@ -13,6 +13,7 @@ ghost use Rattle.numerics.specs.Gradient.{GradientCall};
 ghost use Rattle.numerics.specs.Outflow.{OutflowCall, Scattered};
 ghost use Rattle.stencil.specs.Checks.{StencilCall};
 ghost use Rattle.coupling.specs.Grid.{grid_lent, field, field_lent};
+ghost use Rattle.gauss.specs.Calls.{GaussCall, PressureCall, PressureAloneCall};
 ghost use Rattle.predictor.specs.Boundary.{BoundaryCall};
 ghost use Rattle.predictor.specs.Coefficients.{CoefficientCall};
 ghost use Rattle.predictor.specs.Prediction.{flow_fields_lent, PredictionCall};
@@ -203,6 +204,105 @@ pub extern "C" fn juvandeer_integrated_divergence<'a>(
         values: flux,
     };
     told(numerics::integrated_divergence(&faces, &flux, out), index)
+}
+
+// `gauss::gauss_gradient_from_faces`.
+#[unsafe(no_mangle)]
+pub extern "C" fn juvandeer_gauss_gradient_from_faces<'a>(
+    counts: Counts,
+    adjacency: &'a [usize],
+    geometry: &'a [f64],
+    places: &'a [f64],
+    number: u64,
+    values: &'a [f64],
+    out: &'a mut [f64],
+    index: &mut usize,
+) -> u64
+    ensures told { let m = grid_lent adjacency geometry places in
+        let v = field_lent number values in
+        Told (λ (a : Answer). GaussCall counts m v out.old a out.new) result index.new }
+{
+    let grid = Grid {
+        counts,
+        adjacency,
+        geometry,
+        places,
+    };
+    let values = Field { number, values };
+    told(gauss::gauss_gradient_from_faces(&grid, &values, out), index)
+}
+
+// `gauss::pressure_coupling_gradient`.
+#[unsafe(no_mangle)]
+pub extern "C" fn juvandeer_pressure_coupling_gradient<'a>(
+    counts: Counts,
+    adjacency: &'a [usize],
+    geometry: &'a [f64],
+    places: &'a [f64],
+    number: u64,
+    codes: &'a [usize],
+    values: &'a [f64],
+    pressure: u64,
+    pressures: &'a [f64],
+    out: &'a mut [f64],
+    index: &mut usize,
+) -> u64
+    ensures told { let m = grid_lent adjacency geometry places in
+        let k = conditions_lent number codes values in
+        let p = field_lent pressure pressures in
+        Told (λ (a : Answer). PressureCall counts m k p out.old a out.new) result index.new }
+{
+    let grid = Grid {
+        counts,
+        adjacency,
+        geometry,
+        places,
+    };
+    let conditions = Conditions {
+        number,
+        codes,
+        values,
+    };
+    let pressure = Field {
+        number: pressure,
+        values: pressures,
+    };
+    told(
+        gauss::pressure_coupling_gradient(&grid, &conditions, &pressure, out),
+        index,
+    )
+}
+
+// `gauss::pressure_coupling_gradient_without_conditions`.
+#[unsafe(no_mangle)]
+pub extern "C" fn juvandeer_pressure_coupling_gradient_without_conditions<'a>(
+    counts: Counts,
+    adjacency: &'a [usize],
+    geometry: &'a [f64],
+    places: &'a [f64],
+    pressure: u64,
+    pressures: &'a [f64],
+    out: &'a mut [f64],
+    index: &mut usize,
+) -> u64
+    ensures told { let m = grid_lent adjacency geometry places in
+        let p = field_lent pressure pressures in
+        Told (λ (a : Answer). PressureAloneCall counts m p out.old a out.new) result index.new }
+{
+    let grid = Grid {
+        counts,
+        adjacency,
+        geometry,
+        places,
+    };
+    let pressure = Field {
+        number: pressure,
+        values: pressures,
+    };
+    told(
+        gauss::pressure_coupling_gradient_without_conditions(&grid, &pressure, out),
+        index,
+    )
 }
 
 // `simple::momentum_inverse_diagonal`.

@@ -109,7 +109,7 @@ enum juvandeer_answer {
     JUVANDEER_MISSING_BOUNDARY_CONDITION = 10,
     /* a diagonal or a response that is not finite or at most 0, or a velocity not finite; cell */
     JUVANDEER_INVALID_MOMENTUM_DIAGONAL = 11,
-    /* a volume that is not finite or at most 0; cell */
+    /* a volume at most 0 or, but for the gradients by Gauss, not finite; cell */
     JUVANDEER_INVALID_CELL_MEASURE = 12,
     /* more than 26 faces name a cell, or its chain has more than 26 face records; lowest cell */
     JUVANDEER_CROWDED_CELL = 14,
@@ -233,6 +233,74 @@ uint64_t juvandeer_integrated_divergence(
     const size_t *adjacency, size_t adjacency_len,
     uint64_t number,
     const double *flux, size_t flux_len,
+    double *out, size_t out_len,
+    size_t *index);
+
+/* The gradient of each cell by Gauss, from the values of the faces: area vector x value of each face, in face
+ * order from +0.0, added to its owner's sum and taken from its neighbour's; then each sum over its cell's
+ * volume. Nothing has to be finite: a gradient may be infinite or a NaN.
+ *
+ *   in   adjacency 2 x faces, geometry 11 x faces, places 4 x cells; number before values 1 x faces
+ *   out  out 3 x cells: x, y and z of a cell, then those of the next, so that an array of a struct of three
+ *        doubles may be handed out
+ *
+ * Refusals: 1 to 4, 14 and 20, output untouched; 12 at the lowest cell whose volume is <= 0, so that a NaN
+ * and +infinity pass, output +0.0. No links are lent: 20 looks at every own distance, and at the other of
+ * each face with two cells. */
+uint64_t juvandeer_gauss_gradient_from_faces(
+    struct juvandeer_counts counts,
+    const size_t *adjacency, size_t adjacency_len,
+    const double *geometry, size_t geometry_len,
+    const double *places, size_t places_len,
+    uint64_t number,
+    const double *values, size_t values_len,
+    double *out, size_t out_len,
+    size_t *index);
+
+/* The same of a pressure, whose value at a face is
+ *
+ *   with two cells       (b x owner's + a x neighbour's) / (a + b), where a and b are its own and its other
+ *                        distance
+ *   with a link          the same with the pressure of the linked face's owner, and b the distance to its
+ *                        image, from the face's centre to that owner's centre less the translation
+ *   with a fixed value   that value
+ *   that is left         its owner's + 0.0
+ *
+ * A link is looked at before the condition, and an absent condition is no refusal. Where a + b is 0, the
+ * value is what the division gives.
+ *
+ *   in   adjacency 2 x faces, geometry 11 x faces, places 4 x cells; number before codes 2 x faces and
+ *        values 4 x faces; pressure before pressures 1 x cells
+ *   out  out 3 x cells, as above
+ *
+ * Refusals: 1 to 4, 14, 6 and 20, output untouched; 12 as above, output +0.0. */
+uint64_t juvandeer_pressure_coupling_gradient(
+    struct juvandeer_counts counts,
+    const size_t *adjacency, size_t adjacency_len,
+    const double *geometry, size_t geometry_len,
+    const double *places, size_t places_len,
+    uint64_t number,
+    const size_t *codes, size_t codes_len,
+    const double *values, size_t values_len,
+    uint64_t pressure,
+    const double *pressures, size_t pressures_len,
+    double *out, size_t out_len,
+    size_t *index);
+
+/* The same without conditions and links: a face with one cell has its owner's pressure + 0.0.
+ *
+ *   in   adjacency 2 x faces, geometry 11 x faces, places 4 x cells; pressure before pressures 1 x cells
+ *   out  out 3 x cells, as above
+ *
+ * Refusals: 1 to 4, 14 and 20, output untouched; 12 as above, output +0.0. 20 looks at every own distance,
+ * and at the other of each face with two cells. */
+uint64_t juvandeer_pressure_coupling_gradient_without_conditions(
+    struct juvandeer_counts counts,
+    const size_t *adjacency, size_t adjacency_len,
+    const double *geometry, size_t geometry_len,
+    const double *places, size_t places_len,
+    uint64_t pressure,
+    const double *pressures, size_t pressures_len,
     double *out, size_t out_len,
     size_t *index);
 

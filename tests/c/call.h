@@ -9,7 +9,7 @@
 enum part {
     ADJACENCY, GEOMETRY, HEADS, PLACES, FACING, BORDERING, CODES, VALUES, STARTS, EQUATIONS, WEIGHTS,
     INVERSES, DIAGONAL, RESPONSES, PRESSURE, VELOCITY, GRADIENT, WALLS, PREDICTED, COEFFICIENTS,
-    CORRECTION, FLUX, OUTFLOW, METRICS, CORRECTED, PARTS
+    CORRECTION, FLUX, OUTFLOW, METRICS, CORRECTED, FACE_VALUES, PARTS
 };
 
 /* Enough for the geometry of 32 faces. */
@@ -35,8 +35,11 @@ struct entry {
     int clears, over;
 };
 
-/* So many of them, from the first, have stored lines; juvandeer_face_distances, the last, has none. */
-enum { STORED = 12, FACE_DISTANCES = STORED, ENTRIES };
+/* So many of them, from the first, have stored lines. */
+enum {
+    STORED = 12, GAUSS_GRADIENT_FROM_FACES = STORED, PRESSURE_COUPLING_GRADIENT,
+    PRESSURE_COUPLING_GRADIENT_WITHOUT_CONDITIONS, FACE_DISTANCES, ENTRIES
+};
 
 extern const struct entry entries[ENTRIES];
 

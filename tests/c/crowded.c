@@ -15,12 +15,12 @@ enum lent { NO_MESH, STENCIL, FACES, FACES_AND_STENCIL, FACES_AND_LINKS, WHOLE_M
 /* In the order of the entries. */
 static const enum lent lent_to[ENTRIES] = {
     NO_MESH, WHOLE_MESH, STENCIL, FACES, FACES_AND_LINKS, FACES_AND_STENCIL, FACES_AND_LINKS,
-    FACES_AND_LINKS, NO_MESH, FACES, FACES, WHOLE_MESH, FACES_AND_LINKS
+    FACES_AND_LINKS, NO_MESH, FACES, FACES, WHOLE_MESH, FACES, FACES_AND_LINKS, FACES, FACES_AND_LINKS
 };
 
 /* What is wrong besides: face 3 of a missing cell; the faces and the equations of cell 1 begin at a missing
- * record; face 4 is linked to itself; the own distance of face 0 is another. */
-enum fault { NONE, BAD_FACE, BROKEN_CHAINS, BAD_LINK, WRONG_DISTANCE };
+ * record; face 4 is linked to itself; the own distance of face 0 is another; cell 0 has volume 0. */
+enum fault { NONE, BAD_FACE, BROKEN_CHAINS, BAD_LINK, WRONG_DISTANCE, BAD_VOLUME };
 
 /* Faces more that a cell has alone, faces more that both have, and records more of a cell's chain of faces,
  * which name a face of its own again. A number with its index for each kind; 0 is accepted. */
@@ -63,6 +63,8 @@ static const struct crowd crowds[] = {
     {.name = "26 faces of cell 1, a bad link", .own = {0, 22}, .fault = BAD_LINK,
         .answers = {[FACES_AND_LINKS] = {6, 4}, [WHOLE_MESH] = {6, 4}}},
     {.name = "27 faces of cell 1, a wrong distance", .own = {0, 23}, .fault = WRONG_DISTANCE,
+        .answers = {OF_FACES(14, 1), [WHOLE_MESH] = {14, 1}}},
+    {.name = "27 faces of cell 1, volume 0", .own = {0, 23}, .fault = BAD_VOLUME,
         .answers = {OF_FACES(14, 1), [WHOLE_MESH] = {14, 1}}}
 };
 
@@ -85,6 +87,7 @@ static void add_faces(struct call *call, size_t faces, size_t owner, size_t neig
     call->length[PREDICTED] += faces;
     call->length[COEFFICIENTS] += faces;
     call->length[FLUX] += faces;
+    call->length[FACE_VALUES] += faces;
 }
 
 /* Records that name a face, behind the last record of a chain. */
@@ -110,6 +113,8 @@ static void spoil(struct call *call, enum fault fault)
         call->whole[CODES][9] = 5;
     if (fault == WRONG_DISTANCE)
         call->real[GEOMETRY][9] = 1.0;
+    if (fault == BAD_VOLUME)
+        call->real[PLACES][3] = 0.0;
 }
 
 void judge_crowded(void)

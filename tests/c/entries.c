@@ -95,6 +95,27 @@ static uint64_t step(struct call *c)
         REAL(METRICS), &c->index);
 }
 
+static uint64_t from_faces(struct call *c)
+{
+    return juvandeer_gauss_gradient_from_faces(
+        c->counts, WHOLE(ADJACENCY), REAL(GEOMETRY), REAL(PLACES), c->number[FACE_VALUES],
+        REAL(FACE_VALUES), REAL(GRADIENT), &c->index);
+}
+
+static uint64_t pressure(struct call *c)
+{
+    return juvandeer_pressure_coupling_gradient(
+        c->counts, WHOLE(ADJACENCY), REAL(GEOMETRY), REAL(PLACES), c->number[CODES], WHOLE(CODES),
+        REAL(VALUES), c->number[PRESSURE], REAL(PRESSURE), REAL(GRADIENT), &c->index);
+}
+
+static uint64_t pressure_alone(struct call *c)
+{
+    return juvandeer_pressure_coupling_gradient_without_conditions(
+        c->counts, WHOLE(ADJACENCY), REAL(GEOMETRY), REAL(PLACES), c->number[PRESSURE],
+        REAL(PRESSURE), REAL(GRADIENT), &c->index);
+}
+
 static uint64_t distances(struct call *c)
 {
     return juvandeer_face_distances(
@@ -116,5 +137,8 @@ const struct entry entries[ENTRIES] = {
     {"continuity_metrics", metrics, {OUTFLOW, METRICS, PARTS}, 1, 0},
     {"step", step, {STARTS, EQUATIONS, WEIGHTS, INVERSES, GRADIENT, PREDICTED, COEFFICIENTS, FLUX,
         OUTFLOW, METRICS, PARTS}, 1, 0},
+    {"gauss_gradient_from_faces", from_faces, {GRADIENT, PARTS}, 1, 0},
+    {"pressure_coupling_gradient", pressure, {GRADIENT, PARTS}, 1, 0},
+    {"pressure_coupling_gradient_without_conditions", pressure_alone, {GRADIENT, PARTS}, 1, 0},
     {"face_distances", distances, {GEOMETRY, PARTS}, 0, 1}
 };

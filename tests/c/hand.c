@@ -90,9 +90,10 @@ void judge_counts(void)
  * linked with face 2; face 6 is linked with face 0, which has two cells, and faces 5 and 4 to themselves. */
 void judge_links(void)
 {
-    static const char *const names[6] = {
+    static const char *const names[7] = {
         "least_squares_stencil", "pressure_face_coefficients_with_boundary",
-        "correct_face_flux_with_boundary", "correct_face_flux_in_place", "step", "face_distances"
+        "correct_face_flux_with_boundary", "correct_face_flux_in_place", "step",
+        "pressure_coupling_gradient", "face_distances"
     };
     static const struct {
         const char *name;
@@ -103,7 +104,7 @@ void judge_links(void)
     };
     static struct call call;
     for (size_t i = 0; i < sizeof rows / sizeof *rows; i++)
-        for (size_t k = 0; k < 6; k++) {
+        for (size_t k = 0; k < 7; k++) {
             const struct entry *entry = named(names[k]);
             lend(&call, entry);
             for (size_t f = 0; f < rows[i].faces; f++)
@@ -168,6 +169,21 @@ void judge_payloads(void)
         fail("correct_face_flux_in_place: a flux that is left has other bits");
 }
 
+/* The gradient by Gauss of a cell without a face is +0.0. */
+static void hold_no_face(const char *name, uint64_t answer, size_t *index, double gradient[3])
+{
+    if (answer || *index)
+        fail("%s without a face: refused", name);
+    for (size_t k = 0; k < 3; k++) {
+        if (bits_of(gradient[k]))
+            fail("%s without a face: number %zu is %016" PRIx64 ", expected 0", name, k,
+                bits_of(gradient[k]));
+        gradient[k] = 1.0;
+    }
+    *index = SIZE_MAX;
+    passed++;
+}
+
 /* One cell and no face: slices of length 0 without a pointer, lent and handed out. */
 void judge_null(void)
 {
@@ -195,5 +211,21 @@ void judge_null(void)
     index = SIZE_MAX;
     if (juvandeer_face_distances(counts, NULL, 0, places, 4, 7, NULL, 0, NULL, 0, &index) || index)
         fail("distances without a face: refused");
+    passed++;
+    double gradient[3] = {1.0, 1.0, 1.0};
+    index = SIZE_MAX;
+    uint64_t answer = juvandeer_gauss_gradient_from_faces(
+        counts, NULL, 0, NULL, 0, places, 4, 7, NULL, 0, gradient, 3, &index);
+    hold_no_face("gauss_gradient_from_faces", answer, &index, gradient);
+    answer = juvandeer_pressure_coupling_gradient(
+        counts, NULL, 0, NULL, 0, places, 4, 7, NULL, 0, NULL, 0, 7, &response, 1, gradient, 3, &index);
+    hold_no_face("pressure_coupling_gradient", answer, &index, gradient);
+    answer = juvandeer_pressure_coupling_gradient_without_conditions(
+        counts, NULL, 0, NULL, 0, places, 4, 7, &response, 1, gradient, 3, &index);
+    hold_no_face("pressure_coupling_gradient_without_conditions", answer, &index, gradient);
+    if (juvandeer_gauss_gradient_from_faces(
+            counts, NULL, 0, NULL, 0, NULL, 0, 7, NULL, 0, NULL, 0, &index) != JUVANDEER_LENGTH
+        || index)
+        fail("a gradient with no slice at all: not refused by 2");
     passed++;
 }

@@ -26,6 +26,8 @@ void judge_crowded(void);
 
 void judge_distances(void);
 
+void judge_gauss(void);
+
 void judge_payloads(void);
 
 void judge_room(void);

@@ -16,7 +16,7 @@ static const size_t lengths[PARTS] = {
     [CODES] = 14, [VALUES] = 28, [STARTS] = 2, [EQUATIONS] = 14, [WEIGHTS] = 28, [INVERSES] = 18,
     [DIAGONAL] = 2, [RESPONSES] = 2, [PRESSURE] = 2, [VELOCITY] = 6, [GRADIENT] = 6, [WALLS] = 7,
     [PREDICTED] = 7, [COEFFICIENTS] = 7, [CORRECTION] = 2, [FLUX] = 7, [OUTFLOW] = 2, [METRICS] = 2,
-    [CORRECTED] = 6
+    [CORRECTED] = 6, [FACE_VALUES] = 7
 };
 
 static const size_t whole[PARTS][ROOM] = {
@@ -61,7 +61,8 @@ static const double real[PARTS][ROOM] = {
     [PREDICTED] = {2.0, -1.0, 1.0, 0.0, 0.1, 0.2, -0.3, 1.0},
     [COEFFICIENTS] = {0.5, 1.0, 1.0, 2.0, 0.0, 0.0, 0.7},
     [CORRECTION] = {1.0, 3.0},
-    [FLUX] = {1.0, -1.0, 0.7, 0.1, 0.2, -0.5, 0.3}
+    [FLUX] = {1.0, -1.0, 0.7, 0.1, 0.2, -0.5, 0.3},
+    [FACE_VALUES] = {0.3, -0.4, 1.1, 0.9, -0.8, 1.7, 0.6}
 };
 
 int is_whole(enum part part)

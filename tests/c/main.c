@@ -59,6 +59,7 @@ int main(int count, char **arguments)
     judge_links();
     judge_crowded();
     judge_distances();
+    judge_gauss();
     judge_payloads();
     judge_room();
     judge_null();

@@ -97,7 +97,7 @@ fn refused() -> Vec<(String, [&'static str; 4])> {
         (correction("0-1  1", "0  1\n1  0"), [
             "bad volume at 1.",
             "refusal 12 index 1 by continuity_metrics",
-            "cell 1 has a volume that is not finite or not above 0",
+            "cell 1 has a volume that is at most 0 or, where outflows are divided by it, not finite",
             "give cell 1 a volume above 0 in `cells`",
         ]),
         (cubes_with(21), [

@@ -102,6 +102,17 @@ functions! {
         [stencil], (records), starts: usize, equations: usize, weights: f64, inverses: f64,
         [number], field: f64 => out: f64
     );
+    gauss_gradient_from_faces = juvandeer_gauss_gradient_from_faces(
+        adjacency: usize, geometry: f64, places: f64, [number], values: f64 => out: f64
+    );
+    pressure_coupling_gradient = juvandeer_pressure_coupling_gradient(
+        adjacency: usize, geometry: f64, places: f64, [number], codes: usize, values: f64,
+        [pressure], pressures: f64 => out: f64
+    );
+    pressure_coupling_gradient_without_conditions =
+        juvandeer_pressure_coupling_gradient_without_conditions(
+        adjacency: usize, geometry: f64, places: f64, [pressure], pressures: f64 => out: f64
+    );
     pressure_face_coefficients = juvandeer_pressure_face_coefficients(
         adjacency: usize, geometry: f64, places: f64, [response], responses: f64 => out: f64
     );

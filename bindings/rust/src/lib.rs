@@ -53,6 +53,7 @@ mod error;
 #[allow(unsafe_code)]
 mod ffi;
 mod fields;
+mod gradients;
 mod mesh;
 mod points;
 mod refusal;

@@ -34,7 +34,7 @@ pub enum RefusalKind {
     MissingBoundaryCondition,
     /// 11: a cell's momentum diagonal or response is not finite or not above 0, or its velocity is not finite.
     InvalidMomentumDiagonal,
-    /// 12: a cell's volume is not finite or not above 0.
+    /// 12: a cell's volume is at most 0 or, where outflows are divided by it, not finite.
     InvalidCellMeasure,
     /// 14: a cell has more than 26 faces, or more than 26 records in its chain of faces.
     CrowdedCell,
@@ -132,7 +132,7 @@ impl Refusal {
             RefusalKind::InvalidPressureFaceCoefficient => format!("face {index} has a coefficient that is not finite or not above 0, or a flux that is not finite"),
             RefusalKind::MissingBoundaryCondition => format!("face {index} has one cell and neither a link nor a condition"),
             RefusalKind::InvalidMomentumDiagonal => format!("cell {index} has a momentum diagonal or response that is not finite or not above 0, or a velocity that is not finite"),
-            RefusalKind::InvalidCellMeasure => format!("cell {index} has a volume that is not finite or not above 0"),
+            RefusalKind::InvalidCellMeasure => format!("cell {index} has a volume that is at most 0 or, where outflows are divided by it, not finite"),
             RefusalKind::CrowdedCell => format!("cell {index} has more than 26 faces"),
             RefusalKind::WrongDistance => format!("face {index} carries a distance that is not, bit for bit, the one that the geometry gives"),
             RefusalKind::Other(number) => format!("{number} is a number that these bindings do not know"),

@@ -29,6 +29,17 @@ fn size_1() {
     let large = Mesh::from_faces(Dimension::Two, &[], &vec![cell; 65_536]).unwrap();
     let diagonal = vec![1.0; 65_536];
     assert_eq!(refused(large.momentum_inverse_diagonal(&diagonal)), (1, 0));
+    for mesh in [&empty, &large] {
+        let (values, pressure) = (FaceField::uniform(mesh, 1.0), CellField::uniform(mesh, 1.0));
+        let absent = Conditions::absent(mesh);
+        let without = mesh.pressure_coupling_gradient_without_conditions(&pressure);
+        let answers = [
+            refused(mesh.gauss_gradient_from_faces(&values)),
+            refused(mesh.pressure_coupling_gradient(&absent, &pressure)),
+            refused(without),
+        ];
+        assert_eq!(answers, [(1, 0); 3]);
+    }
 }
 
 #[test]
@@ -53,6 +64,14 @@ fn length_2() {
     assert_eq!(refused(mesh.pressure_face_coefficients(&long)), (2, 0));
     let few = Conditions::new(&mesh, &[Condition::ZeroGradient]);
     assert_eq!(refused(mesh.least_squares_stencil(&few)), (2, 0));
+    assert_eq!(refused(mesh.gauss_gradient_from_faces(&short)), (2, 0));
+    let absent = Conditions::absent(&mesh);
+    let pressure = CellField::uniform(&mesh, 1.0);
+    let coupling = |c, p| mesh.pressure_coupling_gradient(c, p);
+    assert_eq!(refused(coupling(&absent, &long)), (2, 0));
+    assert_eq!(refused(coupling(&few, &pressure)), (2, 0));
+    let without = mesh.pressure_coupling_gradient_without_conditions(&long);
+    assert_eq!(refused(without), (2, 0));
 }
 
 /// Everything of another mesh of the same form, one after another, in every call that takes it.
@@ -62,6 +81,7 @@ fn mesh_mismatch_3() {
     let mesh = &a.mesh;
     let boundary = |c, r| mesh.pressure_face_coefficients_with_boundary(c, r);
     let velocity = |v, r, g| mesh.correct_cell_velocity_from_gradient(v, r, g);
+    let coupling = |c, p| mesh.pressure_coupling_gradient(c, p);
     let answers = [
         refused(mesh.face_distances(&b.conditions)),
         refused(mesh.least_squares_stencil(&b.conditions)),
@@ -75,8 +95,12 @@ fn mesh_mismatch_3() {
         refused(velocity(&a.velocity, &a.responses, &b.gradient)),
         refused(mesh.integrated_divergence(&b.flux)),
         refused(mesh.continuity_metrics(&b.flux)),
+        refused(mesh.gauss_gradient_from_faces(&b.flux)),
+        refused(coupling(&b.conditions, &a.pressure)),
+        refused(coupling(&a.conditions, &b.pressure)),
+        refused(mesh.pressure_coupling_gradient_without_conditions(&b.pressure)),
     ];
-    assert_eq!(answers, [(3, 0); 12]);
+    assert_eq!(answers, [(3, 0); 16]);
 }
 
 #[test]
@@ -199,8 +223,9 @@ fn lowest_bad_link_6() {
             refused(mesh.correct_face_flux_with_boundary(c, p, k, x)),
             refused(mesh.correct_face_flux_in_place(c, k, x, &mut p.clone())),
             refused(mesh.step(made.step_input())),
+            refused(mesh.pressure_coupling_gradient(c, &made.pressure)),
         ];
-        assert_eq!(answers, [answers[0]; 6]);
+        assert_eq!(answers, [answers[0]; 7]);
         answers[0]
     };
     // 1 and 2 stay linked well
@@ -213,7 +238,7 @@ fn lowest_bad_link_6() {
 
 /// What the calls answer on the base with so many faces more of cell 1, which has four: first those that look at
 /// faces, then those that do not. The faces have a zero gradient and fields of 0.
-fn with_faces(more: usize, spoil: fn(&mut Made)) -> ([Answer; 10], [Answer; 3]) {
+fn with_faces(more: usize, spoil: fn(&mut Made)) -> ([Answer; 13], [Answer; 3]) {
     let mut crowd = base();
     crowd.faces.extend(vec![crowd.faces[5]; more]);
     crowd.conditions.extend(vec![Condition::ZeroGradient; more]);
@@ -246,6 +271,9 @@ fn with_faces(more: usize, spoil: fn(&mut Made)) -> ([Answer; 10], [Answer; 3]) 
         answer(mesh.continuity_metrics(&made.flux)),
         answer(mesh.step(made.step_input())),
         answer(mesh.face_distances(c)),
+        answer(mesh.gauss_gradient_from_faces(&made.flux)),
+        answer(mesh.pressure_coupling_gradient(c, x)),
+        answer(mesh.pressure_coupling_gradient_without_conditions(x)),
     ];
     let of_others = [
         answer(mesh.momentum_inverse_diagonal(&made.diagonal)),
@@ -267,8 +295,8 @@ fn answer<T>(answer: Result<T, Refusal>) -> Answer {
 
 #[test]
 fn crowded_cell_14() {
-    assert_eq!(with_faces(22, |_| ()), ([Ok(()); 10], [Ok(()); 3]));
-    assert_eq!(with_faces(23, |_| ()), ([Err((14, 1)); 10], [Ok(()); 3]));
+    assert_eq!(with_faces(22, |_| ()), ([Ok(()); 13], [Ok(()); 3]));
+    assert_eq!(with_faces(23, |_| ()), ([Err((14, 1)); 13], [Ok(()); 3]));
 }
 
 /// 14 comes before 6 and after 5.
@@ -278,10 +306,10 @@ fn crowded_cell_14_in_its_place() {
         made.conditions.link(4, 4, [1.0, 0.0, 0.0]).unwrap();
     };
     let (of_faces, _) = with_faces(22, bad_link);
-    let linked = [0, 2, 4, 5, 8, 9].map(|call| of_faces[call]);
-    assert_eq!(linked, [Err((6, 4)); 6]);
+    let linked = [0, 2, 4, 5, 8, 9, 11].map(|call| of_faces[call]);
+    assert_eq!(linked, [Err((6, 4)); 7]);
     let (of_faces, _) = with_faces(23, bad_link);
-    assert_eq!(of_faces, [Err((14, 1)); 10]);
+    assert_eq!(of_faces, [Err((14, 1)); 13]);
     let broken_chain = |made: &mut Made| {
         let kept = &made.stencil;
         made.stencil = Stencil::from_slices(

@@ -44,8 +44,8 @@ impl Lent {
         change(&mut self.mesh.geometry);
     }
 
-    /// The calls that are lent geometry with links: the stencil, the coefficients and the step.
-    fn with_links(&self) -> [Answer; 3] {
+    /// The calls that are lent geometry with links: the stencil, the coefficients, the step and a gradient.
+    fn with_links(&self) -> [Answer; 4] {
         let (mesh, conditions) = (&self.mesh, &self.conditions);
         let responses = CellField::uniform(mesh, 0.5);
         let cells = CellField::uniform(mesh, 0.3);
@@ -61,11 +61,12 @@ impl Lent {
             answer(mesh.least_squares_stencil(conditions)),
             answer(mesh.pressure_face_coefficients_with_boundary(conditions, &responses)),
             answer(step),
+            answer(mesh.pressure_coupling_gradient(conditions, &cells)),
         ]
     }
 
-    /// Those that are lent it without: the coefficients and the prediction.
-    fn without_links(&self) -> [Answer; 2] {
+    /// Those that are lent it without: the coefficients, the prediction and two gradients.
+    fn without_links(&self) -> [Answer; 4] {
         let mesh = &self.mesh;
         let responses = CellField::uniform(mesh, 0.5);
         let prediction = mesh.rhie_chow_predicted_flux(
@@ -78,6 +79,8 @@ impl Lent {
         [
             answer(mesh.pressure_face_coefficients(&responses)),
             answer(prediction),
+            answer(mesh.gauss_gradient_from_faces(&FaceField::uniform(mesh, 0.5))),
+            answer(mesh.pressure_coupling_gradient_without_conditions(&responses)),
         ]
     }
 
@@ -115,8 +118,8 @@ fn other(face: usize) -> usize {
 #[test]
 fn as_they_are_made_all_are_accepted() {
     let lent = lent();
-    assert_eq!(lent.with_links(), [Ok(()); 3]);
-    assert_eq!(lent.without_links(), [Ok(()); 2]);
+    assert_eq!(lent.with_links(), [Ok(()); 4]);
+    assert_eq!(lent.without_links(), [Ok(()); 4]);
     assert_eq!(lent.without_geometry(), [Ok(()); 5]);
 }
 
@@ -129,8 +132,8 @@ fn an_own_distance_one_bit_off_20() {
                 let bits = geometry[own(face)].to_bits();
                 geometry[own(face)] = f64::from_bits(if up { bits + 1 } else { bits - 1 });
             });
-            assert_eq!(lent.with_links(), [Err((20, face)); 3]);
-            assert_eq!(lent.without_links(), [Err((20, face)); 2]);
+            assert_eq!(lent.with_links(), [Err((20, face)); 4]);
+            assert_eq!(lent.without_links(), [Err((20, face)); 4]);
             assert_eq!(lent.without_geometry(), [Ok(()); 5]);
         }
     }
@@ -142,9 +145,9 @@ fn an_other_distance_20() {
     for face in 0..7 {
         let mut lent = lent();
         lent.spoil(|geometry| geometry[other(face)] = -geometry[other(face)]);
-        assert_eq!(lent.with_links(), [Err((20, face)); 3]);
+        assert_eq!(lent.with_links(), [Err((20, face)); 4]);
         let answer = if face == 0 { Err((20, 0)) } else { Ok(()) };
-        assert_eq!(lent.without_links(), [answer; 2]);
+        assert_eq!(lent.without_links(), [answer; 4]);
         assert_eq!(lent.without_geometry(), [Ok(()); 5]);
     }
 }
@@ -154,10 +157,10 @@ fn an_other_distance_20() {
 fn the_distances_of_other_links_20() {
     let mut lent = lent();
     lent.conditions.linked = Some(OnceLock::from(lent.mesh.geometry.clone()));
-    assert_eq!(lent.with_links(), [Err((20, 1)); 3]);
+    assert_eq!(lent.with_links(), [Err((20, 1)); 4]);
     lent.conditions.link(3, 4, [-24.0, 10.0, 0.0]).unwrap();
     lent.conditions.linked = self::lent().conditions.linked;
-    assert_eq!(lent.with_links(), [Err((20, 3)); 3]);
+    assert_eq!(lent.with_links(), [Err((20, 3)); 4]);
 }
 
 #[test]
@@ -168,8 +171,8 @@ fn the_lowest_wrong_distance_20() {
         geometry[own(3)] = 12.0;
         geometry[other(2)] = 6.0;
     });
-    assert_eq!(lent.with_links(), [Err((20, 2)); 3]);
-    assert_eq!(lent.without_links(), [Err((20, 3)); 2]);
+    assert_eq!(lent.with_links(), [Err((20, 2)); 4]);
+    assert_eq!(lent.without_links(), [Err((20, 3)); 4]);
 }
 
 /// 20 comes after 3 and 6, and before arithmetic.
@@ -179,14 +182,25 @@ fn wrong_distances_20_in_their_place() {
     lent.spoil(|geometry| geometry[own(0)] = 4.0);
     let mut unlike = lent.clone();
     unlike.conditions = self::lent().conditions;
-    assert_eq!(unlike.with_links(), [Err((3, 0)); 3]);
+    assert_eq!(unlike.with_links(), [Err((3, 0)); 4]);
     let mut bad = lent.clone();
     bad.conditions.link(4, 4, [0.0; 3]).unwrap();
     bad.spoil(|geometry| geometry[own(0)] = 4.0);
-    assert_eq!(bad.with_links(), [Err((6, 4)); 3]);
+    assert_eq!(bad.with_links(), [Err((6, 4)); 4]);
     let negative = CellField::uniform(&lent.mesh, -1.0);
     let coefficients = lent.mesh.pressure_face_coefficients(&negative);
     assert_eq!(answer(coefficients), Err((20, 0)));
+    let faces = [0, 1, 2, 3, 4, 5, 6].map(|face| lent.mesh.face(face).unwrap());
+    let cells = [0, 1].map(|cell| Cell {
+        volume: 0.0,
+        ..lent.mesh.cell(cell).unwrap()
+    });
+    let mut hollow = Mesh::from_faces(Dimension::Two, &faces, &cells).unwrap();
+    let values = FaceField::uniform(&hollow, 0.5);
+    let gradient = |mesh: &Mesh| answer(mesh.gauss_gradient_from_faces(&values));
+    assert_eq!(gradient(&hollow), Err((12, 0)));
+    hollow.geometry[own(3)] = 4.0;
+    assert_eq!(gradient(&hollow), Err((20, 3)));
 }
 
 /// Any NaN agrees with any other, and infinity is stored as such.

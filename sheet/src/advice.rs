@@ -14,9 +14,17 @@ pub fn advice(refused: &Refused) -> String {
         RefusalKind::InvalidPressureFaceCoefficient => coefficient(refused.by, index),
         RefusalKind::MissingBoundaryCondition => format!("give face {index} a condition in `conditions`, or link it in `links`"),
         RefusalKind::InvalidMomentumDiagonal => format!("give cell {index} a `momentum-diagonal` that is finite and above 0"),
-        RefusalKind::InvalidCellMeasure => format!("give cell {index} a volume above 0 in `cells`"),
+        RefusalKind::InvalidCellMeasure => volume(refused.by, index),
         RefusalKind::CrowdedCell => format!("split cell {index} into smaller ones, or join several of its faces into one: in `faces`, at most 26 may name a cell"),
         _ => "no sheet is known that meets this: keep the sheet and report it".to_string(),
+    }
+}
+
+/// What the functions of the engine ask of a volume.
+fn volume(by: &str, index: usize) -> String {
+    match by {
+        "step" | "continuity_metrics" => format!("give cell {index} a volume that is finite and above 0 in `cells`: its outflow is divided by it"),
+        _ => format!("give cell {index} a volume above 0 in `cells`: its gradient is divided by it"),
     }
 }
 

@@ -2,11 +2,11 @@
 
 /// What is printed on `--help`, and after a command that is not understood.
 pub const USAGE: &str = "\
-usage: juvandeer FILE                    run a sheet: fluxes, outflows, metrics, mass balance
-       juvandeer FILE --check FLUXES     mark a flux sheet against it, bit by bit
+usage: juvandeer FILE                    run a sheet: fluxes, outflows, metrics, mass balance; or gradients
+       juvandeer FILE --check FLUXES     mark a flux sheet against it, bit by bit; or a gradient sheet
        juvandeer --polymesh FOLDER       print a sheet with the mesh of an OpenFOAM polyMesh folder
-FILE and FLUXES can be `-`, standard input.
-status: 0 accepted, or every flux right; 1 a flux is wrong; 2 wrong use; 3 refused by the engine;
+FILE and FLUXES can be `-`, standard input. Gradients are what a sheet of `form gradient` gives.
+status: 0 accepted, or all is right; 1 a flux or a gradient is wrong; 2 wrong use; 3 refused by the engine;
         4 a mistake in FILE or FOLDER; 5 a mistake in FLUXES; 6 the output could not be written
 ";
 
@@ -47,7 +47,9 @@ fn complaint(words: &[&str]) -> String {
     let unknown = |word: &&&str| word.starts_with('-') && !known.contains(*word);
     match words {
         [] => "expected the file of a sheet".to_string(),
-        [.., "--check"] => "expected the file of a flux sheet after `--check`".to_string(),
+        [.., "--check"] => {
+            "expected the file of a flux sheet or a gradient sheet after `--check`".to_string()
+        }
         [.., "--polymesh"] => "expected a polyMesh folder after `--polymesh`".to_string(),
         _ => match words.iter().find(unknown) {
             Some(word) => format!("there is no option `{word}`"),

@@ -4,7 +4,7 @@ use crate::lines::Line;
 use crate::mistake::{quoted, Mistake};
 
 /// The words that begin an entry.
-pub const NAMES: [&str; 16] = [
+pub const NAMES: [&str; 17] = [
     "form",
     "dimension",
     "points",
@@ -21,6 +21,7 @@ pub const NAMES: [&str; 16] = [
     "pressure-correction",
     "predicted-flux",
     "face-coefficient",
+    "face-value",
 ];
 
 /// A word, the words beside it, and the lines below it that begin with a digit.

@@ -1,17 +1,20 @@
 //! Sheets: a mesh, its conditions and its fields in a text file that a person writes by hand. They are run
-//! through the engine, what it gives is printed, and flux sheets are marked against it. FORMAT.md says what a
-//! sheet looks like.
+//! through the engine, what it gives is printed, and flux sheets and gradient sheets are marked against it.
+//! FORMAT.md says what a sheet looks like.
 
 #![forbid(unsafe_code)]
 #![deny(missing_docs)]
 
 mod advice;
+mod any;
 pub mod check;
 mod closed;
 mod conditions;
 mod entries;
 mod fields;
 pub mod files;
+mod form;
+mod gradient;
 mod items;
 mod lines;
 mod mesh;
@@ -22,6 +25,8 @@ pub mod report;
 pub mod run;
 mod sheet;
 
+pub use any::{AnyOutcome, AnySheet};
+pub use gradient::{FaceValues, GradientSheet};
 pub use mistake::Mistake;
 pub use sheet::{CorrectionFields, Fields, Momentum, Sheet, StepFields};
 

@@ -3,15 +3,13 @@
 mod arguments;
 
 use arguments::{Command, USAGE};
-use sheet::check::{self, Mark};
-use sheet::run::Outcome;
-use sheet::{files, polymesh, report, Mistake, Sheet};
+use sheet::{files, polymesh, report, AnyOutcome, AnySheet, Mistake};
 use std::io::{self, Write};
 use std::path::Path;
 use std::process::ExitCode;
 
 /// What the program ends with: 0 and these.
-const WRONG_FLUX: u8 = 1;
+const NOT_RIGHT: u8 = 1;
 const WRONG_USE: u8 = 2;
 const REFUSED: u8 = 3;
 const WRONG_FILE: u8 = 4;
@@ -65,24 +63,23 @@ fn main() -> ExitCode {
 
 fn run(file: &str) -> Ending {
     match outcome(file) {
-        Ok((_, outcome)) => Ending::printed(report::outcome(&outcome), 0),
+        Ok(outcome) => Ending::printed(outcome.report(), 0),
         Err(ending) => ending,
     }
 }
 
 fn mark(file: &str, fluxes: &str) -> Ending {
-    let (sheet, outcome) = match outcome(file) {
-        Ok(pair) => pair,
+    let outcome = match outcome(file) {
+        Ok(outcome) => outcome,
         Err(ending) => return ending,
     };
-    let given = bytes(fluxes).and_then(|bytes| check::read(&bytes, sheet.mesh.face_count()));
-    let given = match given {
-        Ok(given) => given,
-        Err(mistake) => return told(&mistake, fluxes, WRONG_FLUX_FILE),
-    };
-    let mark = Mark::of(&given, outcome.flux.values());
-    let status = mark.first_wrong.map_or(0, |_| WRONG_FLUX);
-    Ending::printed(mark.report(fluxes), status)
+    match bytes(fluxes).and_then(|bytes| outcome.mark(&bytes)) {
+        Ok(mark) => {
+            let status = mark.first_wrong.map_or(0, |_| NOT_RIGHT);
+            Ending::printed(mark.report(fluxes), status)
+        }
+        Err(mistake) => told(&mistake, fluxes, WRONG_FLUX_FILE),
+    }
 }
 
 fn import(folder: &str) -> Ending {
@@ -92,14 +89,12 @@ fn import(folder: &str) -> Ending {
     }
 }
 
-/// The sheet of a file and what the engine gives for it.
-fn outcome(file: &str) -> Result<(Sheet, Outcome), Ending> {
-    let sheet = bytes(file).and_then(|bytes| Sheet::read(&bytes));
+/// What the engine gives for the sheet of a file.
+fn outcome(file: &str) -> Result<AnyOutcome, Ending> {
+    let sheet = bytes(file).and_then(|bytes| AnySheet::read(&bytes));
     let sheet = sheet.map_err(|mistake| told(&mistake, file, WRONG_FILE))?;
-    match sheet.run() {
-        Ok(outcome) => Ok((sheet, outcome)),
-        Err(refused) => Err(Ending::printed(report::refusal(&refused), REFUSED)),
-    }
+    let refused = |refused| Ending::printed(report::refusal(&refused), REFUSED);
+    sheet.run().map_err(refused)
 }
 
 fn told(mistake: &Mistake, file: &str, status: u8) -> Ending {

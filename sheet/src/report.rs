@@ -4,7 +4,7 @@ use crate::advice::advice;
 use crate::number::{bits, decimal};
 use crate::run::{Outcome, Refused};
 use engine::balance::{Amount, Balance, CellBalance};
-use engine::Metrics;
+use engine::{Metrics, VectorField};
 use std::cmp::Ordering;
 
 /// The heading of the fluxes.
@@ -12,6 +12,9 @@ pub const FLUX_HEADING: &str = "face flux";
 
 /// The heading of the outflows.
 pub const OUTFLOW_HEADING: &str = "cell outflow";
+
+/// The heading of the gradients.
+pub const GRADIENT_HEADING: &str = "cell gradient";
 
 /// A bound is a whole number of units of 2 to the minus this.
 const BOUND_PLACES: u32 = 1127;
@@ -25,6 +28,16 @@ pub fn outcome(outcome: &Outcome) -> String {
     match &outcome.balance {
         Ok(balance) => mass_balance(&mut text, balance),
         Err(error) => line(&mut text, &format!("no mass balance: {error}")),
+    }
+    text
+}
+
+/// The gradient of each cell: its three numbers, in 2D too.
+pub fn gradient(gradient: &VectorField) -> String {
+    let mut text = String::new();
+    line(&mut text, GRADIENT_HEADING);
+    for (cell, vector) in gradient.vectors().enumerate() {
+        line(&mut text, &format!("{cell} {}", vector.map(bits).join(" ")));
     }
     text
 }

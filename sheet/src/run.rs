@@ -86,6 +86,6 @@ impl Sheet {
     }
 }
 
-fn by(by: &'static str) -> impl Fn(Refusal) -> Refused {
+pub(crate) fn by(by: &'static str) -> impl Fn(Refusal) -> Refused {
     move |refusal| Refused { by, refusal }
 }

@@ -1,14 +1,13 @@
 //! A sheet: what is read from a file and lent to the engine.
 
+use crate::any::AnySheet;
 use crate::conditions::conditions;
 use crate::entries::Entries;
 use crate::fields::{field, scalar, vector, Place};
-use crate::lines::{last_line, lines, text};
-use crate::mesh::mesh;
-use crate::mistake::{quoted, Mistake};
-use engine::{CellField, Conditions, Dimension, FaceField, Mesh, VectorField};
+use crate::mistake::Mistake;
+use engine::{CellField, Conditions, FaceField, Mesh, VectorField};
 
-/// A mesh, its conditions and the fields of one of the two forms.
+/// A mesh, its conditions and the fields of one of the two forms that have fluxes.
 #[derive(Clone, Debug)]
 pub struct Sheet {
     /// The mesh.
@@ -19,7 +18,7 @@ pub struct Sheet {
     pub fields: Fields,
 }
 
-/// The fields of the two forms of a sheet.
+/// The fields of the two forms that have fluxes.
 #[derive(Clone, Debug)]
 pub enum Fields {
     /// `form step`.
@@ -63,91 +62,52 @@ pub enum Momentum {
     Response(CellField),
 }
 
-/// The fields that one form has and the other has not.
-const STEP_FIELDS: [&str; 5] = [
-    "velocity",
-    "pressure",
-    "momentum-diagonal",
-    "momentum-response",
-    "wall-flux",
-];
-const CORRECTION_FIELDS: [&str; 2] = ["predicted-flux", "face-coefficient"];
-
 impl Sheet {
-    /// Reads a sheet.
+    /// Reads a sheet of `form step` or `form correction`. [`AnySheet::read`] reads one of any form.
     ///
     /// # Errors
     ///
-    /// The first mistake that is found, with its line.
+    /// The first mistake that is found, with its line; of the whole file where it is of another form.
     pub fn read(bytes: &[u8]) -> Result<Self, Mistake> {
-        let text = text(bytes)?;
-        let entries = Entries::of(lines(text), last_line(text))?;
-        let is_step = form(&entries)?;
-        let dimension = dimension(&entries)?;
-        let (others, own) = if is_step {
-            (&CORRECTION_FIELDS[..], "step")
-        } else {
-            (&STEP_FIELDS[..], "correction")
-        };
-        for name in others {
-            entries.refuse(name, &format!("is no field of `form {own}`"))?;
+        match AnySheet::read(bytes)? {
+            AnySheet::Fluxes(sheet) => Ok(sheet),
+            AnySheet::Gradient(_) => {
+                let reason = "the sheet is of `form gradient`, which has no fluxes";
+                Err(Mistake::new(0, reason))
+            }
         }
-        let mesh = mesh(&entries, dimension, !is_step)?;
-        let reader = Reader {
-            entries: &entries,
-            mesh: &mesh,
-        };
-        let fields = if is_step {
-            Fields::Step(reader.step()?)
-        } else {
-            Fields::Correction(reader.correction()?)
-        };
+    }
+
+    pub(crate) fn of_step(entries: &Entries<'_>, mesh: Mesh) -> Result<Self, Mistake> {
+        let fields = Reader::of(entries, &mesh).step()?;
+        Self::of(entries, mesh, Fields::Step(fields))
+    }
+
+    pub(crate) fn of_correction(entries: &Entries<'_>, mesh: Mesh) -> Result<Self, Mistake> {
+        let fields = Reader::of(entries, &mesh).correction()?;
+        Self::of(entries, mesh, Fields::Correction(fields))
+    }
+
+    fn of(entries: &Entries<'_>, mesh: Mesh, fields: Fields) -> Result<Self, Mistake> {
         Ok(Self {
-            conditions: conditions(&entries, &mesh)?,
+            conditions: conditions(entries, &mesh)?,
             fields,
             mesh,
         })
     }
 }
 
-/// Whether the sheet is of `form step`.
-fn form(entries: &Entries<'_>) -> Result<bool, Mistake> {
-    let entry = entries.need("form", "every sheet needs")?;
-    match entry.only_word("`step` or `correction`")? {
-        "step" => Ok(true),
-        "correction" => Ok(false),
-        word => {
-            let reason = format!(
-                "expected `form step` or `form correction`, found {}",
-                quoted(word)
-            );
-            Err(Mistake::new(entry.line, reason))
-        }
-    }
-}
-
-fn dimension(entries: &Entries<'_>) -> Result<Dimension, Mistake> {
-    let entry = entries.need("dimension", "every sheet needs")?;
-    match entry.only_word("2 or 3")? {
-        "2" => Ok(Dimension::Two),
-        "3" => Ok(Dimension::Three),
-        word => {
-            let reason = format!(
-                "expected `dimension 2` or `dimension 3`, found {}",
-                quoted(word)
-            );
-            Err(Mistake::new(entry.line, reason))
-        }
-    }
-}
-
 /// Reads the fields of a mesh.
-struct Reader<'a> {
-    entries: &'a Entries<'a>,
-    mesh: &'a Mesh,
+pub(crate) struct Reader<'a> {
+    pub(crate) entries: &'a Entries<'a>,
+    pub(crate) mesh: &'a Mesh,
 }
 
-impl Reader<'_> {
+impl<'a> Reader<'a> {
+    pub(crate) fn of(entries: &'a Entries<'a>, mesh: &'a Mesh) -> Self {
+        Self { entries, mesh }
+    }
+
     fn step(&self) -> Result<StepFields, Mistake> {
         Ok(StepFields {
             velocity: self.velocity()?,
@@ -194,7 +154,7 @@ impl Reader<'_> {
         }
     }
 
-    fn cells(&self, name: &str) -> Result<Vec<f64>, Mistake> {
+    pub(crate) fn cells(&self, name: &str) -> Result<Vec<f64>, Mistake> {
         field(
             self.entries.need(name, WHY)?,
             self.cell_place(),
@@ -203,7 +163,7 @@ impl Reader<'_> {
         )
     }
 
-    fn faces(&self, name: &str) -> Result<Vec<f64>, Mistake> {
+    pub(crate) fn faces(&self, name: &str) -> Result<Vec<f64>, Mistake> {
         let place = Place {
             what: "face",
             count: self.mesh.face_count(),

@@ -2,7 +2,7 @@
 
 mod common;
 
-use common::{changed, correction_sheet, mistake, shipped, step_sheet, told};
+use common::{changed, correction_sheet, mistake, shipped, step_sheet, told, SQUARES};
 
 /// After a change of the line with `old` in it, the mistake on that line is told for `reason`.
 fn told_there(sheet: &str, old: &str, new: &str, reason: &str) {
@@ -58,7 +58,7 @@ fn bytes_that_are_no_text() {
 
 #[test]
 fn an_unknown_word() {
-    told_there(&step_sheet(), "links", "lynx", "`lynx` is no word of a sheet: expected an item, which begins with its number, or one of form, dimension, points, faces, cells, face-order, conditions, links, velocity, pressure, momentum-diagonal, momentum-response, wall-flux, pressure-correction, predicted-flux, face-coefficient");
+    told_there(&step_sheet(), "links", "lynx", "`lynx` is no word of a sheet: expected an item, which begins with its number, or one of form, dimension, points, faces, cells, face-order, conditions, links, velocity, pressure, momentum-diagonal, momentum-response, wall-flux, pressure-correction, predicted-flux, face-coefficient, face-value");
 }
 
 #[test]
@@ -87,13 +87,13 @@ fn a_wrong_form() {
         &step_sheet(),
         "form step",
         "form steps",
-        "expected `form step` or `form correction`, found `steps`",
+        "expected `form step`, `form correction` or `form gradient`, found `steps`",
     );
     told_there(
         &step_sheet(),
         "form step",
         "form",
-        "expected `step` or `correction` after `form`, on its line",
+        "expected `step`, `correction` or `gradient` after `form`, on its line",
     );
     told_at("form step\n4\n", 2, "`form` has no items below it");
 }
@@ -140,6 +140,82 @@ fn a_field_of_the_other_form() {
         last_line(&sheet),
         "`velocity` is no field of `form correction`",
     );
+    for (sheet, form) in [(step_sheet(), "step"), (correction_sheet(), "correction")] {
+        let sheet = sheet + "face-value uniform 0\n";
+        let reason = format!("`face-value` is no field of `form {form}`");
+        told_at(&sheet, last_line(&sheet), &reason);
+    }
+    for field in [
+        "velocity uniform 0 0",
+        "momentum-diagonal uniform 1",
+        "momentum-response uniform 1",
+        "wall-flux uniform 0",
+        "pressure-correction uniform 0",
+        "predicted-flux uniform 0",
+        "face-coefficient uniform 0",
+    ] {
+        let sheet = format!("{SQUARES}{field}\n");
+        let (name, _) = field.split_once(' ').unwrap();
+        let reason = format!("`{name}` is no field of `form gradient`");
+        told_at(&sheet, last_line(&sheet), &reason);
+    }
+}
+
+#[test]
+fn neither_a_pressure_nor_values_at_the_faces() {
+    let sheet = without(SQUARES, "pressure\n0  1\n1  3\n");
+    told_at(
+        &sheet,
+        last_line(&sheet),
+        "the sheet ends without `pressure` or `face-value`, one of which `form gradient` needs",
+    );
+}
+
+#[test]
+fn values_at_the_faces_beside_a_pressure() {
+    let reason = "`face-value` has no place beside `pressure`, from which the values at the faces are worked out";
+    let sheet = format!("{SQUARES}face-value uniform 0\nlinks\n");
+    told_at(&sheet, last_line(&sheet) - 1, reason);
+    let sheet = SQUARES.replace("pressure\n", "face-value uniform 0\npressure\n");
+    told_at(&sheet, line_of(&sheet, "face-value"), reason);
+}
+
+#[test]
+fn a_wrong_field_of_a_gradient() {
+    let sheet = without(SQUARES, "1  3\n");
+    told_at(
+        &sheet,
+        line_of(&sheet, "pressure"),
+        "`pressure` has no value for cell 1: it has 1 of 2, and no default",
+    );
+    let sheet = SQUARES.replace("pressure\n0  1\n1  3\n", "face-value\n0-5 1\n");
+    told_at(
+        &sheet,
+        line_of(&sheet, "face-value"),
+        "`face-value` has no value for face 6: it has 6 of 7, and no default",
+    );
+    let sheet = SQUARES.replace("pressure\n0  1\n1  3\n", "face-value\n0-7 1\n");
+    told_at(
+        &sheet,
+        line_of(&sheet, "0-7"),
+        "there is no face 7: the mesh has faces 0 to 6",
+    );
+    // conditions and links are read, with values at the faces too
+    let given = SQUARES.replace("pressure\n0  1\n1  3\n", "face-value uniform 0\n");
+    for sheet in [SQUARES, &given] {
+        let wrong = format!("{sheet}conditions\n3 fixed 2\n");
+        told_at(
+            &wrong,
+            last_line(&wrong),
+            "expected `absent`, `zero-gradient` or `fixed-value` and a number, found `fixed 2`",
+        );
+        let wrong = format!("{sheet}links\n1 9  2 0\n");
+        told_at(
+            &wrong,
+            last_line(&wrong),
+            "there is no face 9: the mesh has faces 0 to 6",
+        );
+    }
 }
 
 #[test]
@@ -329,9 +405,16 @@ fn a_face_of_a_missing_cell() {
 fn geometry_that_is_not_whole() {
     told_there(&step_sheet(), "6  1 -  1.5 1    0 1", "6  1 -  1.5 1    0", "expected a centre and an area vector, and a normal or none, after the face's cells: 4 or 6 numbers, found 3");
     told_there(&step_sheet(), "6  1 -  1.5 1    0 1", "6  1 -", "expected a centre and an area vector, and a normal or none, after the face's cells: 4 or 6 numbers, found 0");
+    told_there(SQUARES, "6  1 -  1.5 1    0 1", "6  1 -", "expected a centre and an area vector, and a normal or none, after the face's cells: 4 or 6 numbers, found 0");
     told_there(&correction_sheet(), "6  1 -", "6  1 - 1", "expected nothing, or a centre and an area vector, and a normal or none, after the face's cells: 4 or 6 numbers, found 1");
     told_there(
         &step_sheet(),
+        "1  1.5 0.5  1",
+        "1  1",
+        "expected a centre and a volume, 3 numbers, found 1",
+    );
+    told_there(
+        SQUARES,
         "1  1.5 0.5  1",
         "1  1",
         "expected a centre and a volume, 3 numbers, found 1",
@@ -609,6 +692,16 @@ fn a_mistake_goes_to_standard_error_with_file_and_line() {
     );
 }
 
+/// What is read for its fluxes alone has to have some.
+#[test]
+fn a_gradient_where_fluxes_are_asked_for() {
+    let found = sheet::Sheet::read(SQUARES.as_bytes()).unwrap_err();
+    assert_eq!(
+        found.in_file("my.sheet"),
+        "my.sheet: the sheet is of `form gradient`, which has no fluxes"
+    );
+}
+
 #[test]
 fn a_command_that_is_not_understood() {
     for (arguments, reason) in [
@@ -620,7 +713,7 @@ fn a_command_that_is_not_understood() {
         ),
         (
             &["a", "--check"],
-            "expected the file of a flux sheet after `--check`",
+            "expected the file of a flux sheet or a gradient sheet after `--check`",
         ),
         (
             &["--polymesh"],

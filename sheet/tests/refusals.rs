@@ -4,10 +4,11 @@ mod common;
 
 use common::{
     changed, correction_sheet, listed, printed, step_sheet, text, told, CUBES, NOT_MET, NUMBERS,
+    SQUARES,
 };
 use engine::Refusal;
 use sheet::run::Refused;
-use sheet::{report, Sheet};
+use sheet::{report, AnySheet, Sheet};
 
 /// A sheet without a cell.
 const EMPTY: &str = "form correction\ndimension 2\nfaces\ncells\npredicted-flux\nface-coefficient\npressure-correction\n";
@@ -98,7 +99,7 @@ fn refused() -> Vec<(String, [&'static str; 4])> {
             "bad volume at 1.",
             "refusal 12 index 1 by continuity_metrics",
             "cell 1 has a volume that is at most 0 or, where outflows are divided by it, not finite",
-            "give cell 1 a volume above 0 in `cells`",
+            "give cell 1 a volume that is finite and above 0 in `cells`: its outflow is divided by it",
         ]),
         (cubes_with(21), [
             "refusal 14 at 1.",
@@ -112,6 +113,60 @@ fn refused() -> Vec<(String, [&'static str; 4])> {
             "cell 1 has more than 26 faces",
             "split cell 1 into smaller ones, or join several of its faces into one: in `faces`, at most 26 may name a cell",
         ]),
+    ]
+}
+
+/// The squares of a gradient after a change, with values at the faces where they are given in place of the
+/// pressure.
+fn squares(old: &str, new: &str, given: bool) -> String {
+    let sheet = changed(SQUARES, old, new).0;
+    match given {
+        true => sheet.replace("pressure\n0  1\n1  3\n", "face-value uniform 1\n"),
+        false => sheet,
+    }
+}
+
+/// The same of `form gradient`.
+fn refused_gradients() -> Vec<(String, [&'static str; 4])> {
+    let hollow = |given| squares("1  1.5 0.5  1", "1  1.5 0.5  -0", given);
+    let hollow_with = |entry: &str| hollow(false) + entry;
+    let crowd = |given| {
+        let last = "6  1 -  1.5 1    0 1";
+        squares(last, &format!("{last}\n7-29  1 -  1.5 1  0 1"), given)
+    };
+    let volume = [
+        "bad volume at 1.",
+        "refusal 12 index 1 by pressure_coupling_gradient_without_conditions",
+        "cell 1 has a volume that is at most 0 or, where outflows are divided by it, not finite",
+        "give cell 1 a volume above 0 in `cells`: its gradient is divided by it",
+    ];
+    let many = [
+        "refusal 14 at 1.",
+        "refusal 14 index 1 by pressure_coupling_gradient_without_conditions",
+        "cell 1 has more than 26 faces",
+        "split cell 1 into smaller ones, or join several of its faces into one: in `faces`, at most 26 may name a cell",
+    ];
+    let by = |lines: [&'static str; 4], second| [lines[0], second, lines[2], lines[3]];
+    vec![
+        ("form gradient\ndimension 3\nfaces\ncells\nface-value\n".to_string(), [
+            "bad size at 0.",
+            "refusal 1 index 0 by gauss_gradient_from_faces",
+            "the mesh has no cell, over 65,535 cells, faces, chain entries or equation records, or there is too little room for the stencil's equations",
+            "a mesh needs a cell, and at most 65,535 each of: faces counted cell by cell, neighbours counted cell by cell, equations of the stencil; take fewer cells or faces",
+        ]),
+        (format!("{SQUARES}links\n2 2  2 0\n"), [
+            "bad link at 2.",
+            "refusal 6 index 2 by pressure_coupling_gradient",
+            "face 2 has a link but two cells, or is linked to itself, to a missing face or to one that is not linked back",
+            "in `links`, pair two different faces that have one cell each",
+        ]),
+        (hollow(false), volume),
+        (hollow_with("conditions\n"), by(volume, "refusal 12 index 1 by pressure_coupling_gradient")),
+        (hollow_with("links\n1 2  2 0\n"), by(volume, "refusal 12 index 1 by pressure_coupling_gradient")),
+        (hollow(true), by(volume, "refusal 12 index 1 by gauss_gradient_from_faces")),
+        (crowd(false), many),
+        (crowd(false) + "conditions\n", by(many, "refusal 14 index 1 by pressure_coupling_gradient")),
+        (crowd(true), by(many, "refusal 14 index 1 by gauss_gradient_from_faces")),
     ]
 }
 
@@ -139,7 +194,7 @@ fn correction_with(more: usize) -> String {
 
 #[test]
 fn a_refusal_is_the_result_of_a_sheet() {
-    for (sheet, lines) in refused() {
+    for (sheet, lines) in refused().into_iter().chain(refused_gradients()) {
         let (output, error, status) = told(&["-"], &sheet);
         let printed: Vec<&str> = output.lines().collect();
         assert_eq!(printed, lines);
@@ -162,6 +217,31 @@ fn as_many_faces_as_a_cell_may_have() {
         assert_eq!(flux[..faces], listed(&printed(&sheet), "face flux"));
         assert!(flux[faces..].iter().all(|&bits| bits == 0));
     }
+}
+
+/// With 26 faces of cell 1 a gradient is accepted, and so is one without a condition anywhere.
+#[test]
+fn what_a_gradient_is_not_refused_for() {
+    let last = "6  1 -  1.5 1    0 1";
+    let crowd = changed(
+        SQUARES,
+        last,
+        &format!("{last}\n7-28  1 -  1.5 1  0 0  0 1"),
+    )
+    .0;
+    let names = |pair: &&[usize]| pair[0] == 1 || pair[1] == 2;
+    let AnySheet::Gradient(read) = AnySheet::read(crowd.as_bytes()).unwrap() else {
+        panic!("it has fluxes");
+    };
+    let adjacency = read.mesh.adjacency();
+    assert_eq!(adjacency.chunks_exact(2).filter(names).count(), 26);
+    assert_eq!(printed(&crowd), printed(SQUARES));
+    let absent = format!("{SQUARES}conditions uniform absent\n");
+    assert_eq!(printed(&absent), printed(SQUARES));
+    // no link is lent beside values at the faces
+    let given = SQUARES.replace("pressure\n0  1\n1  3\n", "face-value uniform 1\n");
+    let linked = format!("{given}links\n2 2  2 0\n");
+    assert_eq!(printed(&linked), printed(&given));
 }
 
 /// 14 comes before 6.

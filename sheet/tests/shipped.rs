@@ -3,7 +3,7 @@
 mod common;
 mod exact;
 
-use common::{listed, path, printed, shipped, text, told, SHIPPED};
+use common::{gradients, listed, path, printed, shipped, text, told, GRADIENT, SHIPPED};
 use exact::Exact;
 use sheet::Sheet;
 
@@ -114,7 +114,7 @@ fn in_bits(sheet: &str) -> String {
 
 #[test]
 fn numbers_given_as_bits_give_the_same_bits() {
-    for name in SHIPPED {
+    for name in SHIPPED.into_iter().chain([GRADIENT]) {
         let sheet = shipped(name);
         let bits = in_bits(&sheet);
         assert!(
@@ -232,4 +232,51 @@ fn the_fluxes_make_sense() {
             assert!((out - through).abs() < 1e-5, "{name}: {out}");
         }
     }
+}
+
+/// A face between a short cell and a long one is 0.5 and 1.5 from their centres, so that it has (1.5 p + 0.5 q) / 2
+/// of the short one's pressure p and the long one's q; where the duct is linked likewise. Along x the gradient is
+/// the difference of a cell's two ends over its length: in a short cell a quarter of the difference of the long
+/// ones beside it, and in a long cell of the short ones beside it. Along y the face between the rows has the mean
+/// of the two, the lower wall 0.5 and the upper wall its cell's own.
+#[test]
+fn the_gradients_of_the_linked_duct() {
+    let expected = [
+        [(6.0 + 2.0) / 4.0, (1.0 + 2.5) / 2.0 - 0.5],
+        [(4.0 - 1.0) / 4.0, (6.0 + 5.0) / 2.0 - 0.5],
+        [(-2.0 - 6.0) / 4.0, (4.0 + 8.0) / 2.0 - 0.5],
+        [(1.0 - 4.0) / 4.0, (-2.0 + 1.0) / 2.0 - 0.5],
+        [(5.0 - 1.0) / 4.0, 2.5 - (1.0 + 2.5) / 2.0],
+        [(8.0 - 2.5) / 4.0, 5.0 - (6.0 + 5.0) / 2.0],
+        [(1.0 - 5.0) / 4.0, 8.0 - (4.0 + 8.0) / 2.0],
+        [(2.5 - 8.0) / 4.0, 1.0 - (-2.0 + 1.0) / 2.0],
+    ];
+    let expected = expected.map(|[x, y]: [f64; 2]| [x, y, 0.0].map(f64::to_bits));
+    let file = path("sheets/linked-duct.sheet");
+    let (output, error, status) = told(&[file.to_str().unwrap()], "");
+    assert_eq!(gradients(&output), expected);
+    assert_eq!((error.as_str(), status), ("", 0));
+}
+
+/// In eighths: over all cells the volume times the gradient comes to the area vectors of the outer faces times
+/// their values, and the linked ends take from each other. The cells are 1 and 3 long.
+#[test]
+fn the_gradients_add_up_to_what_stands_at_the_walls() {
+    let eighths = |bits: u64| {
+        let eighths = 8.0 * f64::from_bits(bits);
+        assert_eq!(eighths, eighths.trunc());
+        eighths as i64
+    };
+    let mut sum = [0; 3];
+    for (gradient, volume) in gradients(&printed(&shipped(GRADIENT)))
+        .iter()
+        .zip([1, 3].repeat(4))
+    {
+        for (sum, &bits) in sum.iter_mut().zip(gradient) {
+            *sum += volume * eighths(bits);
+        }
+    }
+    // 2.5, 5, 8 and 1 along the upper wall, 0.5 along all of the lower one
+    let upper = 20 + 3 * 40 + 64 + 3 * 8;
+    assert_eq!(sum, [0, upper - 8 * 4, 0]);
 }

@@ -3,8 +3,10 @@
 
 mod common;
 
-use common::{own, printed, shipped, step_sheet, told, NOT_MET, SHIPPED};
-use sheet::{check, polymesh, report, Sheet};
+use common::{
+    gradients, own, printed, shipped, step_sheet, told, GRADIENT, NOT_MET, SHIPPED, SQUARES,
+};
+use sheet::{check, polymesh, report, AnyOutcome, AnySheet};
 use std::fs;
 
 /// Numbers that look random, always the same ones.
@@ -92,7 +94,7 @@ fn swap_lines(bytes: &mut Vec<u8>, numbers: &mut Numbers) {
 /// Reads and runs a file, and gives whether it was read. A refusal is told in four lines, and is none that the
 /// program sees to itself.
 fn tried(bytes: &[u8]) -> bool {
-    match Sheet::read(bytes) {
+    match AnySheet::read(bytes) {
         Err(mistake) => {
             let lines = bytes.split(|&byte| byte == b'\n').count();
             assert!(
@@ -104,7 +106,7 @@ fn tried(bytes: &[u8]) -> bool {
         }
         Ok(sheet) => {
             match sheet.run() {
-                Ok(outcome) => assert!(report::outcome(&outcome).ends_with("together\n")),
+                Ok(outcome) => printed_whole(&outcome),
                 Err(refused) => {
                     let printed = report::refusal(&refused);
                     assert_eq!(printed.lines().count(), 4);
@@ -121,11 +123,24 @@ fn tried(bytes: &[u8]) -> bool {
     }
 }
 
+/// A balance at its end, or a gradient for each cell.
+fn printed_whole(outcome: &AnyOutcome) {
+    let printed = outcome.report();
+    match outcome {
+        AnyOutcome::Fluxes(_) => assert!(printed.ends_with("together\n")),
+        AnyOutcome::Gradient(gradient) => {
+            let cells = gradient.values().len() / 3;
+            assert_eq!(printed.lines().count(), 1 + cells);
+        }
+    }
+}
+
 #[test]
 fn spoiled_sheets() {
     let mut numbers = Numbers(20_261_116);
     let mut sheets: Vec<String> = SHIPPED.map(shipped).to_vec();
     sheets.extend([step_sheet(), common::correction_sheet()]);
+    sheets.extend([shipped(GRADIENT), SQUARES.to_string()]);
     let (mut read, mut told) = (0, 0);
     for round in 0..4_000 {
         let sheet = &sheets[round % sheets.len()];
@@ -151,6 +166,7 @@ fn bytes_at_random() {
         let bytes: Vec<u8> = (0..length).map(|_| numbers.next() as u8).collect();
         tried(&bytes);
         let _ = check::read(&bytes, numbers.below(100));
+        let _ = check::read_gradient(&bytes, numbers.below(100));
     }
 }
 
@@ -160,6 +176,8 @@ fn every_sheet_cut_short() {
         step_sheet(),
         common::correction_sheet(),
         shipped("two-cell"),
+        shipped(GRADIENT),
+        SQUARES.to_string(),
     ] {
         for length in 0..sheet.len() {
             tried(&sheet.as_bytes()[..length]);
@@ -177,6 +195,21 @@ fn spoiled_flux_sheets() {
             assert_eq!(fluxes.len(), 101);
         }
     }
+}
+
+#[test]
+fn spoiled_gradient_sheets() {
+    let output = printed(&shipped(GRADIENT));
+    let mut numbers = Numbers(3);
+    let mut read = 0;
+    for _ in 0..1_000 {
+        let bytes = spoiled(output.as_bytes(), &mut numbers);
+        if let Ok(gradients) = check::read_gradient(&bytes, 8) {
+            assert_eq!(gradients.len(), 24);
+            read += 1;
+        }
+    }
+    assert!(read > 20 && read < 980, "{read} were read");
 }
 
 #[test]
@@ -198,6 +231,19 @@ fn spoiled_meshes() {
         fs::write(folder.join(file), text).unwrap();
     }
     fs::remove_dir_all(folder).unwrap();
+}
+
+/// As many cells and faces as are taken, a face to each cell.
+#[test]
+fn large_gradients() {
+    let faces: String = (0..65_535)
+        .map(|at| format!("{at} {at} - 1 0 2 0\n"))
+        .collect();
+    let sheet = format!(
+        "form gradient\ndimension 2\nfaces\n{faces}cells\n0-65534 0 0 4\nface-value uniform 6\n"
+    );
+    let gradients = gradients(&printed(&sheet));
+    assert_eq!(gradients, vec![[3.0, 0.0, 0.0].map(f64::to_bits); 65_535]);
 }
 
 /// As many cells and faces as are taken, and more than are, most in few bytes.

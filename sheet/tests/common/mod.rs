@@ -1,14 +1,17 @@
 //! Files of the repository, and the program that is tested.
 #![allow(dead_code)]
 
-use sheet::{Mistake, Sheet};
+use sheet::{AnySheet, Mistake};
 use std::fs;
 use std::io::Write;
 use std::path::{Path, PathBuf};
 use std::process::{Command, Output, Stdio};
 
-/// The sheets that are shipped.
+/// The sheets that are shipped, but for the last of them, which has gradients and no fluxes.
 pub const SHIPPED: [&str; 4] = ["two-cell", "duct-with-bend", "annulus", "block"];
+
+/// The sheet of `form gradient` that is shipped.
+pub const GRADIENT: &str = "linked-duct";
 
 /// The numbers of refusals that are in use.
 pub const NUMBERS: [u64; 14] = [1, 2, 3, 4, 5, 6, 7, 8, 9, 10, 11, 12, 14, 20];
@@ -71,6 +74,26 @@ pressure-correction
 1  1
 ";
 
+/// Two unit squares in `form gradient`, with the faces of `step.sheet`; the pressure is 2x.
+pub const SQUARES: &str = "\
+form gradient
+dimension 2
+faces
+0  0 1  1 0.5    1 0
+1  0 -  0 0.5   -1 0
+2  1 -  2 0.5    1 0
+3  0 -  0.5 0    0 -1
+4  0 -  0.5 1    0 1
+5  1 -  1.5 0    0 -1
+6  1 -  1.5 1    0 1
+cells
+0  0.5 0.5  1
+1  1.5 0.5  1
+pressure
+0  1
+1  3
+";
+
 /// A file beside the tests.
 pub fn own(name: &str) -> PathBuf {
     Path::new(env!("CARGO_MANIFEST_DIR"))
@@ -111,7 +134,7 @@ pub fn printed(sheet: &str) -> String {
 
 /// The mistake of a sheet.
 pub fn mistake(text: &str) -> Mistake {
-    match Sheet::read(text.as_bytes()) {
+    match AnySheet::read(text.as_bytes()) {
         Ok(_) => panic!("the sheet was read:\n{text}"),
         Err(mistake) => mistake,
     }
@@ -159,6 +182,19 @@ pub fn listed(printed: &str, heading: &str) -> Vec<u64> {
         bits.push(u64::from_str_radix(word, 16).unwrap());
     }
     bits
+}
+
+/// The gradients that are printed, as bits.
+pub fn gradients(printed: &str) -> Vec<[u64; 3]> {
+    let mut lines = printed.lines();
+    assert_eq!(lines.next(), Some("cell gradient"));
+    let gradient = |(cell, line): (usize, &str)| {
+        let words: Vec<&str> = line.split(' ').collect();
+        assert_eq!((words.len(), words[0]), (4, cell.to_string().as_str()));
+        assert!(words[1..].iter().all(|word| word.len() == 16));
+        [1, 2, 3].map(|at| u64::from_str_radix(words[at], 16).unwrap())
+    };
+    lines.enumerate().map(gradient).collect()
 }
 
 /// The bits of the two metrics.

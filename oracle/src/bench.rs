@@ -8,7 +8,7 @@ use crate::lent::{Lent, FACE_WIDTH, OWN};
 use crate::makers::{self, Walls};
 use crate::port::{Answer, Port};
 use crate::random::Random;
-use flursys::simple::access::continuity_metrics;
+use flursys::simple::access::{continuity_metrics, pressure_coupling_gradient};
 use flursys::LeastSquaresGradientStencil;
 use std::hint::black_box;
 use std::time::{Duration, Instant};
@@ -236,6 +236,7 @@ fn rust_call(entry: Entry, lent: &Lent) -> Box<dyn FnMut()> {
     let coefficients = lent.face_numbers(Part::Coefficients);
     let correction = lent.cell_numbers(Part::Correction);
     let flux = lent.face_numbers(Part::Flux);
+    let face_values = lent.face_numbers(Part::FaceValues);
     macro_rules! repeat {
         ($call:expr) => {
             Box::new(move || {
@@ -306,6 +307,19 @@ fn rust_call(entry: Entry, lent: &Lent) -> Box<dyn FnMut()> {
                 calls::write_distances(black_box(&mesh), &conditions, &mut geometry);
                 black_box(&geometry);
             })
+        }
+        Entry::GaussGradientFromFaces => {
+            repeat!(flursys::gauss_gradient_from_faces(&mesh, &face_values))
+        }
+        Entry::PressureCouplingGradient => {
+            repeat!(pressure_coupling_gradient(
+                &mesh,
+                &pressure,
+                Some(&conditions)
+            ))
+        }
+        Entry::PressureCouplingGradientWithoutConditions => {
+            repeat!(pressure_coupling_gradient(&mesh, &pressure, None))
         }
     }
 }

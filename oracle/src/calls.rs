@@ -6,13 +6,14 @@ pub use counting::{counts_agree, equation_counts};
 
 use crate::entry::{Entry, Part};
 use crate::lent::{distances, export_stencil, three, Lent, SliceMut, Slices, FACE_WIDTH, OWN};
-use flursys::simple::access::continuity_metrics;
+use flursys::simple::access::{continuity_metrics, pressure_coupling_gradient};
 use flursys::{
     correct_cell_velocity_from_gradient, correct_face_flux_with_boundary, fields,
-    integrated_divergence, least_squares_gradient, mesh, momentum_inverse_diagonal,
-    pressure_face_coefficients, pressure_face_coefficients_with_boundary, rhie_chow_predicted_flux,
-    CellField, FaceField, FieldError, LeastSquaresGradientStencil, NumericsError,
-    ResolvedScalarBoundaryConditions, SimpleError, UnstructuredMesh, Vec3,
+    gauss_gradient_from_faces, integrated_divergence, least_squares_gradient, mesh,
+    momentum_inverse_diagonal, pressure_face_coefficients,
+    pressure_face_coefficients_with_boundary, rhie_chow_predicted_flux, CellField, FaceField,
+    FieldError, LeastSquaresGradientStencil, NumericsError, ResolvedScalarBoundaryConditions,
+    SimpleError, UnstructuredMesh, Vec3,
 };
 
 /// Where a check stands; this decides what a refusal leaves in the outputs.
@@ -102,6 +103,9 @@ pub fn run(entry: Entry, lent: &Lent) -> Outcome {
         Entry::Step => step(lent),
         Entry::CorrectFaceFluxInPlace => corrected_in_place(lent),
         Entry::FaceDistances => Ok(with_distances(lent)),
+        Entry::GaussGradientFromFaces => gradient_of_faces(lent),
+        Entry::PressureCouplingGradient => coupling_gradient(lent, Some(&lent.conditions())),
+        Entry::PressureCouplingGradientWithoutConditions => coupling_gradient(lent, None),
     };
     match result {
         Ok(outputs) => Outcome::Accepted(Box::new(outputs)),
@@ -222,6 +226,28 @@ pub fn write_distances(
     for (face, record) in geometry.chunks_exact_mut(FACE_WIDTH).enumerate() {
         record[OWN..].copy_from_slice(&distances(mesh, conditions, face));
     }
+}
+
+fn gradient_of_faces(lent: &Lent) -> Result<Slices, Refused> {
+    let values = lent.face_numbers(Part::FaceValues);
+    let gradient = gauss_gradient_from_faces(&lent.mesh(), &values);
+    Ok(Slices {
+        gradient: flat(&gradient.map_err(of_numerics)?),
+        ..Slices::default()
+    })
+}
+
+/// The Rust looks at the mesh number of neither the pressure nor the conditions.
+fn coupling_gradient(
+    lent: &Lent,
+    conditions: Option<&ResolvedScalarBoundaryConditions>,
+) -> Result<Slices, Refused> {
+    let pressure = lent.cell_numbers(Part::Pressure);
+    let gradient = pressure_coupling_gradient(&lent.mesh(), &pressure, conditions);
+    Ok(Slices {
+        gradient: flat(&gradient.map_err(of_simple)?),
+        ..Slices::default()
+    })
 }
 
 fn corrected_velocity(lent: &Lent) -> Result<Slices, Refused> {
@@ -356,7 +382,7 @@ fn of_numerics(error: NumericsError) -> Refused {
         NumericsError::SingularLeastSquaresStencil { cell } => (8, cell),
         NumericsError::MissingBoundaryCondition { face } => (10, face),
         NumericsError::InvalidCellMeasure { cell } => (12, cell),
-        other => unreachable!("no function of document 01 gives {other:?}"),
+        other => unreachable!("no function that is called gives {other:?}"),
     }
 }
 
@@ -366,7 +392,7 @@ fn of_simple(error: SimpleError) -> Refused {
         SimpleError::Numerics(error) => of_numerics(error),
         SimpleError::InvalidPressureFaceCoefficient { face, .. } => (9, face),
         SimpleError::InvalidMomentumDiagonal { cell, .. } => (11, cell),
-        other => unreachable!("no function of document 01 gives {other:?}"),
+        other => unreachable!("no function that is called gives {other:?}"),
     }
 }
 

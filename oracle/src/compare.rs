@@ -3,6 +3,7 @@
 
 mod crowds;
 mod distances;
+mod gradients;
 
 use crate::calls::{self, is_copied, Outcome, Refusal};
 use crate::cases::{self, Case, Settings, Visit};
@@ -16,6 +17,7 @@ use crate::port::{Answer, Call, Port};
 use crate::random::Random;
 use crowds::Crowds;
 use distances::Distances;
+use gradients::Gradients;
 use std::fmt::Write;
 
 /// What every output holds before a call.
@@ -35,6 +37,8 @@ struct Difference {
 struct Tally {
     compared: u64,
     differ: u64,
+    /// Whether what follows is counted too.
+    is_counted: bool,
     /// Compared calls that are accepted, refused before arithmetic, refused within it.
     kinds: [u64; 3],
     /// Compared calls on input that no mesh of the Rust gives and that no check refuses.
@@ -43,8 +47,42 @@ struct Tally {
     bad_links: [u64; 2],
     crowds: Crowds,
     distances: Distances,
+    gradients: Gradients,
     smallest: Option<Difference>,
     claims: Claims,
+}
+
+impl Tally {
+    fn counted() -> Self {
+        Self {
+            is_counted: true,
+            ..Self::default()
+        }
+    }
+
+    fn count(
+        &mut self,
+        entry: Entry,
+        lent: &Lent,
+        outputs: &Slices,
+        expected: &Outcome,
+        built: bool,
+    ) {
+        let kind = match expected {
+            Outcome::Accepted(_) => 0,
+            Outcome::Refused(refusal) if refusal.place != calls::Place::Arithmetic => 1,
+            Outcome::Refused(_) => 2,
+        };
+        self.kinds[kind] += 1;
+        if matches!(expected, Outcome::Refused(refusal) if refusal.number == 6) {
+            self.bad_links[0] += 1;
+            self.bad_links[1] += u64::from(checks::bad_links(lent).len() > 1);
+        }
+        self.crowds.count(entry, lent, expected);
+        self.distances.count(entry, lent, expected);
+        self.gradients.count(entry, lent, outputs, expected);
+        self.beyond += u64::from(!built && kind != 1);
+    }
 }
 
 /// Accepted calls that are held to demand 3 in exact arithmetic.
@@ -113,9 +151,15 @@ pub fn run(port: &Port, settings: &Settings) -> bool {
         None => println!("sqrt: the port is not linked"),
     }
     let mut alone = Alone::default();
-    let tallies = tallies(port, &mut random, settings, &mut |random, case| {
-        check_alone(random, case, &mut alone);
-    });
+    let tallies = tallies(
+        port,
+        &mut random,
+        settings,
+        &Tally::counted,
+        &mut |random, case| {
+            check_alone(random, case, &mut alone);
+        },
+    );
     for (entry, tally) in Entry::ALL.into_iter().zip(&tallies) {
         print_tally(entry, port.call(entry).is_some(), tally);
         total += tally.compared;
@@ -145,7 +189,7 @@ pub fn run(port: &Port, settings: &Settings) -> bool {
 /// many were compared, and whether they agreed and demand 3 held of the accepted ones.
 #[cfg(feature = "sheets")]
 pub fn on(port: &Port, name: &str, entries: &[Entry], lent: &Lent) -> (u64, bool) {
-    let mut tally = Tally::default();
+    let mut tally = Tally::counted();
     for &entry in entries {
         if let Some(call) = port.call(entry) {
             let outputs = patterned(entry, lent);
@@ -176,7 +220,7 @@ pub fn differing(port: &Port, settings: &Settings) -> u64 {
         Some(sqrt) => roots(&mut random, sqrt, settings.cases * ROOTS_PER_CASE).differ,
         None => 0,
     };
-    let tallies = tallies(port, &mut random, settings, &mut |_, _| {});
+    let tallies = tallies(port, &mut random, settings, &Tally::default, &mut |_, _| {});
     wrong_roots + tallies.iter().map(|tally| tally.differ).sum::<u64>()
 }
 
@@ -185,9 +229,10 @@ fn tallies(
     port: &Port,
     random: &mut Random,
     settings: &Settings,
+    tally: &dyn Fn() -> Tally,
     look: &mut dyn FnMut(&mut Random, &Case),
 ) -> Vec<Tally> {
-    let mut tallies: Vec<Tally> = Entry::ALL.iter().map(|_| Tally::default()).collect();
+    let mut tallies: Vec<Tally> = Entry::ALL.iter().map(|_| tally()).collect();
     cases::each(random, settings, &mut |random, case, visit| {
         look(random, case);
         // a sequence for each entry, so that one more or one fewer leaves the cases of the others as they are
@@ -247,6 +292,9 @@ fn print_tally(entry: Entry, is_linked: bool, tally: &Tally) {
     if entry.lends(Part::Geometry) {
         tally.distances.print(entry);
     }
+    if entry.is_gauss() {
+        tally.gradients.print(entry);
+    }
     if exact::is_claimed(entry) {
         tally.claims.print(entry.name());
     }
@@ -275,6 +323,7 @@ fn compare_case(
         tries = tries.into_iter().map(refill).collect();
     }
     tries.extend(spoiling(random, entry, &lent, visit));
+    tries.extend(forging(random, entry, &lent, visit));
     for damages in tries {
         let mut lent = lent.clone();
         let mut outputs = outputs.clone();
@@ -342,6 +391,18 @@ pub fn spoiling(random: &mut Random, entry: Entry, lent: &Lent, visit: Visit) ->
         .collect()
 }
 
+/// Damages to what the gradients of Gauss read.
+pub fn forging(random: &mut Random, entry: Entry, lent: &Lent, visit: Visit) -> Vec<Vec<Damage>> {
+    let count = match visit {
+        Visit::Thorough => 16,
+        Visit::Usual => 6,
+        Visit::Passing => 0,
+    };
+    (0..count)
+        .filter_map(|_| damage::of_gradients(random, entry, lent))
+        .collect()
+}
+
 /// Outputs of the right lengths, filled with the pattern; one that is read too is as it is lent.
 pub fn patterned(entry: Entry, lent: &Lent) -> Slices {
     let mut outputs = Slices::default();
@@ -378,22 +439,12 @@ fn compare_call(
     let mut written = outputs.clone();
     let answer = call(lent, &mut written);
     tally.compared += 1;
-    let kind = match &expected {
-        Outcome::Accepted(_) => 0,
-        Outcome::Refused(refusal) if refusal.place != calls::Place::Arithmetic => 1,
-        Outcome::Refused(_) => 2,
-    };
-    tally.kinds[kind] += 1;
-    if matches!(&expected, Outcome::Refused(refusal) if refusal.number == 6) {
-        tally.bad_links[0] += 1;
-        tally.bad_links[1] += u64::from(checks::bad_links(lent).len() > 1);
+    if tally.is_counted {
+        tally.count(entry, lent, outputs, &expected, built);
     }
-    tally.crowds.count(entry, lent, &expected);
-    tally.distances.count(entry, lent, &expected);
-    tally.beyond += u64::from(!built && kind != 1);
     let wanted = expected.contents(entry, outputs);
     let Some(difference) = difference(entry, lent, &expected, &wanted, answer, &written) else {
-        if answer == Answer::Accepted {
+        if tally.is_counted && answer == Answer::Accepted {
             tally.claims.check(name, entry, lent, &written);
         }
         return;

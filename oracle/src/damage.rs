@@ -1,11 +1,13 @@
 //! Damaged copies of good input: lengths, counts, numbers, indices, chains, codes and links, cells with many
-//! faces, and distances.
+//! faces, distances, and what the gradients of Gauss read.
 
 mod crowd;
 mod distance;
+mod gradient;
 
 pub use crowd::of_crowd;
-pub use distance::{image_distance, of_distances, Spread};
+pub use distance::{of_distances, Spread};
+pub use gradient::of_gradients;
 
 use crate::checks::{self, LIMIT};
 use crate::entry::{Entry, Part, Unit};

@@ -317,8 +317,11 @@ fn cases(entry: Entry) -> &'static [Case] {
         Entry::ContinuityMetrics => METRICS,
         Entry::Step => STEP,
         Entry::CorrectFaceFluxInPlace => IN_PLACE,
-        // it has the program `distances`
-        Entry::FaceDistances => &[],
+        // they have the programs `distances` and `gradients`
+        Entry::FaceDistances
+        | Entry::GaussGradientFromFaces
+        | Entry::PressureCouplingGradient
+        | Entry::PressureCouplingGradientWithoutConditions => &[],
     }
 }
 

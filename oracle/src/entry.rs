@@ -31,6 +31,7 @@ pub enum Part {
     Outflow,
     Metrics,
     Corrected,
+    FaceValues,
 }
 
 /// What a slice has a record for.
@@ -45,7 +46,7 @@ pub enum Unit {
 }
 
 impl Part {
-    pub const ALL: [Part; 25] = [
+    pub const ALL: [Part; 26] = [
         Adjacency,
         Geometry,
         Heads,
@@ -71,6 +72,7 @@ impl Part {
         Outflow,
         Metrics,
         Corrected,
+        FaceValues,
     ];
 
     pub fn name(self) -> &'static str {
@@ -100,6 +102,7 @@ impl Part {
             Outflow => "outflow",
             Metrics => "metrics",
             Corrected => "corrected",
+            FaceValues => "face values",
         }
     }
 
@@ -109,7 +112,7 @@ impl Part {
             Adjacency | Codes => (Unit::Face, 2),
             Geometry => (Unit::Face, FACE_WIDTH),
             Values => (Unit::Face, 4),
-            Walls | Predicted | Coefficients | Flux => (Unit::Face, 1),
+            Walls | Predicted | Coefficients | Flux | FaceValues => (Unit::Face, 1),
             Heads => (Unit::Cell, 2),
             Places => (Unit::Cell, 4),
             Inverses => (Unit::Cell, 9),
@@ -139,6 +142,7 @@ impl Part {
                 | Coefficients
                 | Correction
                 | Flux
+                | FaceValues
         )
     }
 }
@@ -160,10 +164,13 @@ pub enum Entry {
     Step,
     CorrectFaceFluxInPlace,
     FaceDistances,
+    GaussGradientFromFaces,
+    PressureCouplingGradient,
+    PressureCouplingGradientWithoutConditions,
 }
 
 impl Entry {
-    pub const ALL: [Entry; 13] = [
+    pub const ALL: [Entry; 16] = [
         Entry::MomentumInverseDiagonal,
         Entry::LeastSquaresStencil,
         Entry::LeastSquaresGradient,
@@ -177,12 +184,29 @@ impl Entry {
         Entry::Step,
         Entry::CorrectFaceFluxInPlace,
         Entry::FaceDistances,
+        Entry::GaussGradientFromFaces,
+        Entry::PressureCouplingGradient,
+        Entry::PressureCouplingGradientWithoutConditions,
     ];
 
     /// Those of document 01, which the fixed list and the program `edges` call.
     pub fn of_document_01() -> impl Iterator<Item = Entry> {
         let last = Entry::Step as usize;
         Entry::ALL.into_iter().take(last + 1)
+    }
+
+    /// The gradients of Gauss, which divide by the cells' volumes.
+    pub fn of_gauss() -> impl Iterator<Item = Entry> {
+        Entry::ALL.into_iter().filter(|entry| entry.is_gauss())
+    }
+
+    pub fn is_gauss(self) -> bool {
+        matches!(
+            self,
+            Entry::GaussGradientFromFaces
+                | Entry::PressureCouplingGradient
+                | Entry::PressureCouplingGradientWithoutConditions
+        )
     }
 
     pub fn name(self) -> &'static str {
@@ -202,6 +226,11 @@ impl Entry {
             Entry::Step => "step",
             Entry::CorrectFaceFluxInPlace => "correct_face_flux_in_place",
             Entry::FaceDistances => "face_distances",
+            Entry::GaussGradientFromFaces => "gauss_gradient_from_faces",
+            Entry::PressureCouplingGradient => "pressure_coupling_gradient",
+            Entry::PressureCouplingGradientWithoutConditions => {
+                "pressure_coupling_gradient_without_conditions"
+            }
         }
     }
 
@@ -245,6 +274,13 @@ impl Entry {
                 Predicted,
             ],
             Entry::FaceDistances => &[Adjacency, Places, Codes, Geometry],
+            Entry::GaussGradientFromFaces => &[Adjacency, Geometry, Places, FaceValues],
+            Entry::PressureCouplingGradient => {
+                &[Adjacency, Geometry, Places, Codes, Values, Pressure]
+            }
+            Entry::PressureCouplingGradientWithoutConditions => {
+                &[Adjacency, Geometry, Places, Pressure]
+            }
         }
     }
 
@@ -275,6 +311,9 @@ impl Entry {
             ],
             Entry::CorrectFaceFluxInPlace => &[Predicted],
             Entry::FaceDistances => &[Geometry],
+            Entry::GaussGradientFromFaces
+            | Entry::PressureCouplingGradient
+            | Entry::PressureCouplingGradientWithoutConditions => &[Gradient],
         }
     }
 

@@ -72,6 +72,7 @@ pub struct Slices {
     pub outflow: Vec<f64>,
     pub metrics: Vec<f64>,
     pub corrected: Vec<f64>,
+    pub face_values: Vec<f64>,
 }
 
 /// One slice, of whole numbers or of floats.
@@ -138,7 +139,8 @@ parts! {
     float: Geometry geometry, Places places, Values values, Weights weights, Inverses inverses,
         Diagonal diagonal, Responses responses, Pressure pressure, Velocity velocity,
         Gradient gradient, Walls walls, Predicted predicted, Coefficients coefficients,
-        Correction correction, Flux flux, Outflow outflow, Metrics metrics, Corrected corrected
+        Correction correction, Flux flux, Outflow outflow, Metrics metrics, Corrected corrected,
+        FaceValues face_values
 }
 
 impl Slices {
@@ -278,15 +280,26 @@ impl Lent {
         }
     }
 
+    /// The centre of a face in the geometry, or of a cell in the places, where it is there.
+    fn center(&self, part: Part, at: usize) -> Option<Vec3> {
+        let (_, width) = part.shape();
+        let numbers = self.slices.floats(part);
+        (at < numbers.len() / width).then(|| vector(numbers, width * at))
+    }
+
     /// How far the centre of a face is from that of a cell, by the Rust's arithmetic; `None` where one of them is
     /// not there.
     pub fn distance(&self, face: usize, cell: usize) -> Option<f64> {
-        let center = |numbers: &[f64], width: usize, at: usize| {
-            (at < numbers.len() / width).then(|| vector(numbers, width * at))
-        };
-        let face = center(&self.slices.geometry, FACE_WIDTH, face)?;
-        let cell = center(&self.slices.places, 4, cell)?;
-        Some((face - cell).norm())
+        let face = self.center(Part::Geometry, face)?;
+        Some((face - self.center(Part::Places, cell)?).norm())
+    }
+
+    /// How far the centre of a linked face is from the image of its peer's owner, likewise.
+    pub fn image_distance(&self, face: usize, peer: usize) -> Option<f64> {
+        let owner = whole(&self.slices.adjacency, 2 * peer);
+        let translation = vector(&self.slices.values, 4 * face + 1);
+        let image = self.center(Part::Places, owner)? - translation;
+        Some((self.center(Part::Geometry, face)? - image).norm())
     }
 
     pub fn conditions(&self) -> ResolvedScalarBoundaryConditions {

@@ -3,6 +3,8 @@
 
 mod crowded;
 mod distances;
+mod gauss;
+mod gradients;
 
 use crate::calls::{self, Outcome};
 use crate::cases::{self, Settings};
@@ -36,13 +38,23 @@ pub fn run(settings: &Settings) -> bool {
         large: false,
         ..*settings
     };
+    let second = Port {
+        sqrt: None,
+        entries: Entry::of_gauss()
+            .map(|entry| (entry, gauss::rewritten(entry)))
+            .collect(),
+    };
+    let differ = compare::differing(&second, &small);
+    println!("the gradients of Gauss written a second time: {differ} differ");
+    all_right &= differ == 0;
     let mut try_sham = |name: &str, port: Port| {
         let differ = compare::differing(&port, &small);
         println!("sham, {name}: {differ} differ");
         all_right &= differ > 0;
     };
     let shams = SHAMS.iter().chain(crowded::SHAMS);
-    for sham in shams.chain(distances::SHAMS) {
+    let shams = shams.chain(distances::SHAMS).chain(gradients::SHAMS);
+    for sham in shams {
         let port = Port {
             sqrt: None,
             entries: vec![(sham.entry, spoiled(sham))],

@@ -151,5 +151,14 @@ mod library {
             [Predicted] => predicted
         );
         FaceDistances = juvandeer_face_distances(adjacency, places, [Codes] codes => geometry);
+        GaussGradientFromFaces = juvandeer_gauss_gradient_from_faces(
+            adjacency, geometry, places, [FaceValues] face_values => gradient
+        );
+        PressureCouplingGradient = juvandeer_pressure_coupling_gradient(
+            adjacency, geometry, places, [Codes] codes, values, [Pressure] pressure => gradient
+        );
+        PressureCouplingGradientWithoutConditions = juvandeer_pressure_coupling_gradient_without_conditions(
+            adjacency, geometry, places, [Pressure] pressure => gradient
+        );
     }
 }

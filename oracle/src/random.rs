@@ -12,6 +12,12 @@ impl Random {
         }
     }
 
+    /// A sequence of its own, by which this one is not moved on.
+    pub fn apart(&self) -> Self {
+        let mut copy = Self { state: self.state };
+        Self::new(copy.next())
+    }
+
     pub fn next(&mut self) -> u64 {
         let [a, b, c, d] = &mut self.state;
         let result = b.wrapping_mul(5).rotate_left(7).wrapping_mul(9);

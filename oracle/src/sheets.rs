@@ -1,5 +1,5 @@
 //! Sheets of the sheet program, compared as made cases are: the calls that the form of a sheet makes and, where
-//! its step is accepted, every other entry, lent what the Rust's step handed out.
+//! its step is accepted, every other entry, lent what the Rust's step handed out; values of faces are its fluxes.
 
 use crate::calls::Outcome;
 use crate::compare;
@@ -89,6 +89,7 @@ fn of_step(fields: &StepFields, lent: &mut Lent) -> Vec<Entry> {
     }
     entries.push(Entry::Step);
     if handed_on(Entry::Step, lent) {
+        lent.slices.face_values.clone_from(&lent.slices.flux);
         let others = Entry::ALL.into_iter();
         entries.extend(
             others.filter(|&entry| entry != Entry::MomentumInverseDiagonal && entry != Entry::Step),

@@ -55,7 +55,7 @@ pub fn of_distances(random: &mut Random, entry: Entry, lent: &Lent) -> Option<Ve
 }
 
 /// With powers of two at which squares are subnormal, ordinary or infinite.
-fn any_spread(random: &mut Random) -> Spread {
+pub(super) fn any_spread(random: &mut Random) -> Spread {
     let power = match random.chance(1, 2) {
         true => random.pick(&[0, 0, 0, -537, -530, 511, 512]),
         false => random.between(0, 1058) as i32 - 545,
@@ -176,8 +176,8 @@ fn spoil(random: &mut Random, changed: &mut Changed) {
         }
         14 | 15 if !linked.is_empty() => {
             let (face, peer) = random.pick(&linked);
-            let image = image_distance(&changed.lent, face, peer);
-            changed.make(store(face, OTHER, image));
+            let image = changed.lent.image_distance(face, peer);
+            changed.make(store(face, OTHER, image.expect("a sound mesh")));
         }
         16 if !linked.is_empty() => {
             let (_, peer) = random.pick(&linked);
@@ -197,13 +197,4 @@ fn spoil(random: &mut Random, changed: &mut Changed) {
 /// A NaN of either sign with any payload.
 fn nan(random: &mut Random) -> f64 {
     f64::from_bits(random.next() | 0x7ff0_0000_0000_0001)
-}
-
-/// How far the centre of a linked face is from the image of its peer's owner, which the coefficient needs.
-pub fn image_distance(lent: &Lent, face: usize, peer: usize) -> f64 {
-    let mesh = lent.mesh();
-    let link = lent.conditions().cyclic_link(face).expect("a linked face");
-    let owner = mesh.faces()[peer].owner;
-    let image = mesh.cells()[owner].center - link.translation;
-    (mesh.faces()[face].center - image).norm()
 }

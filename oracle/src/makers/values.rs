@@ -134,27 +134,14 @@ const FIELDS: [(Part, Style); 10] = [
 
 /// Fills every field: mostly with ordinary numbers, in some fields with wide ones, in few with one or two
 /// of any kind, in very few with any kind throughout. On linked pairs given fluxes are often opposite and
-/// given coefficients equal.
+/// given coefficients equal. The values of faces come from a sequence of their own.
 pub fn fill(random: &mut Random, lent: &mut Lent) {
     let calm = random.chance(1, 2);
     for (part, usual) in FIELDS {
-        let length = lent.due(part).expect("a count of a built mesh");
-        let style = match (random.below(16), usual) {
-            (0 | 1, Style::Ordinary) => Style::Small,
-            (2, Style::Positive) if !calm => Style::WidePositive,
-            (2, _) if !calm => Style::Wide,
-            (3, _) if !calm && random.chance(1, 3) => Style::Wild,
-            _ => usual,
-        };
-        let mut numbers: Vec<f64> = (0..length).map(|_| float(random, style)).collect();
-        if !calm && length > 0 && random.chance(1, 8) {
-            for _ in 0..random.between(1, 2) {
-                let at = random.below(length);
-                numbers[at] = f64::from_bits(random.pick(&SPECIAL));
-            }
-        }
-        *floats(&mut lent.slices, part) = numbers;
+        fill_field(random, lent, part, usual, calm);
     }
+    let mut apart = random.apart();
+    fill_field(&mut apart, lent, Part::FaceValues, Style::Ordinary, calm);
     mirror(random, lent);
     if random.chance(1, 6) {
         mark(random, lent, Part::Walls, |slices, face| {
@@ -166,6 +153,25 @@ pub fn fill(random: &mut Random, lent: &mut Lent) {
             slices.adjacency[2 * face + 1] == 0 && slices.codes[2 * face..2 * face + 2] == [2, 0]
         });
     }
+}
+
+fn fill_field(random: &mut Random, lent: &mut Lent, part: Part, usual: Style, calm: bool) {
+    let length = lent.due(part).expect("a count of a built mesh");
+    let style = match (random.below(16), usual) {
+        (0 | 1, Style::Ordinary) => Style::Small,
+        (2, Style::Positive) if !calm => Style::WidePositive,
+        (2, _) if !calm => Style::Wide,
+        (3, _) if !calm && random.chance(1, 3) => Style::Wild,
+        _ => usual,
+    };
+    let mut numbers: Vec<f64> = (0..length).map(|_| float(random, style)).collect();
+    if !calm && length > 0 && random.chance(1, 8) {
+        for _ in 0..random.between(1, 2) {
+            let at = random.below(length);
+            numbers[at] = f64::from_bits(random.pick(&SPECIAL));
+        }
+    }
+    *floats(&mut lent.slices, part) = numbers;
 }
 
 /// Puts a number of any kind, often a NaN with a payload, on one of the faces where a call hands it on as

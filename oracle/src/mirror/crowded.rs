@@ -192,6 +192,7 @@ pub const SHAMS: &[Sham] = &[
     miscounted!("27 faces accepted", IntegratedDivergence, one_more),
     miscounted!("27 faces accepted", CorrectFaceFluxInPlace, one_more),
     miscounted!("27 faces accepted", Step, one_more),
+    miscounted!("27 faces accepted", GaussGradientFromFaces, one_more),
     miscounted!(
         "the highest crowded cell",
         PressureFaceCoefficientsWithBoundary,
@@ -199,9 +200,19 @@ pub const SHAMS: &[Sham] = &[
     ),
     miscounted!("the highest crowded cell", ContinuityMetrics, highest),
     miscounted!("the highest crowded cell", Step, highest),
+    miscounted!(
+        "the highest crowded cell",
+        PressureCouplingGradient,
+        highest
+    ),
     miscounted!("only owners counted", CorrectFaceFluxWithBoundary, owners),
     miscounted!("only owners counted", IntegratedDivergence, owners),
     miscounted!("only owners counted", Step, owners),
+    miscounted!(
+        "only owners counted",
+        PressureCouplingGradientWithoutConditions,
+        owners
+    ),
     miscounted!(
         "the last face not counted",
         RhieChowPredictedFlux,
@@ -226,6 +237,7 @@ pub const SHAMS: &[Sham] = &[
     links_first(Entry::CorrectFaceFluxWithBoundary),
     links_first(Entry::CorrectFaceFluxInPlace),
     links_first(Entry::Step),
+    links_first(Entry::PressureCouplingGradient),
     before_chains(Entry::LeastSquaresStencil),
     before_chains(Entry::RhieChowPredictedFlux),
     before_chains(Entry::Step),

@@ -3,7 +3,6 @@
 use super::{answer, Sham};
 use crate::calls;
 use crate::checks::{self, agree, stored_distances};
-use crate::damage::image_distance;
 use crate::entry::{Entry, Part};
 use crate::lent::{Lent, Slices, FACE_WIDTH, OTHER, OWN};
 use crate::port::Answer;
@@ -120,6 +119,10 @@ fn neighbours(_: Entry, lent: &Lent) -> Option<usize> {
 fn not_at_walls(entry: Entry, lent: &Lent) -> Option<usize> {
     let seen = |face| [true, seen(entry, lent)(face)[1] && !is_wall(lent, face)];
     lowest(lent, seen, given(lent), agree)
+}
+
+fn image_distance(lent: &Lent, face: usize, peer: usize) -> f64 {
+    lent.image_distance(face, peer).expect("a sound mesh")
 }
 
 fn image(entry: Entry, lent: &Lent) -> Option<usize> {
@@ -300,6 +303,7 @@ fn remake_links(lent: &Lent, geometry: &mut [f64], distance: impl Fn(usize, usiz
 pub const SHAMS: &[Sham] = &[
     misread!("no distance looked at", PressureFaceCoefficients, none),
     misread!("no distance looked at", Step, none),
+    misread!("no distance looked at", GaussGradientFromFaces, none),
     misread!(
         "the other side not looked at",
         PressureFaceCoefficients,
@@ -327,8 +331,23 @@ pub const SHAMS: &[Sham] = &[
         all_others
     ),
     misread!(
+        "the other side of one-cell faces looked at without links",
+        GaussGradientFromFaces,
+        all_others
+    ),
+    misread!(
+        "the other side of one-cell faces looked at without links",
+        PressureCouplingGradientWithoutConditions,
+        all_others
+    ),
+    misread!(
         "the other side of one-cell faces not looked at",
         LeastSquaresStencil,
+        neighbours
+    ),
+    misread!(
+        "the other side of one-cell faces not looked at",
+        PressureCouplingGradient,
         neighbours
     ),
     misread!(
@@ -344,6 +363,7 @@ pub const SHAMS: &[Sham] = &[
         image
     ),
     misread!("the image distance", Step, image),
+    misread!("the image distance", PressureCouplingGradient, image),
     misread!(
         "from the face itself to its peer's owner",
         Step,
@@ -398,11 +418,14 @@ pub const SHAMS: &[Sham] = &[
     ),
     misread!("the highest wrong face", RhieChowPredictedFlux, highest),
     misread!("the highest wrong face", Step, highest),
+    misread!("the highest wrong face", GaussGradientFromFaces, highest),
+    misread!("the highest wrong face", PressureCouplingGradient, highest),
     misread!("owners' distances first", Step, owners_first),
     misread!("the last face not looked at", Step, without_last),
     before!("20 before 6", LeastSquaresStencil, 6),
     before!("20 before 6", PressureFaceCoefficientsWithBoundary, 6),
     before!("20 before 6", Step, 6),
+    before!("20 before 6", PressureCouplingGradient, 6),
     before!("20 before 14", PressureFaceCoefficients, 14),
     before!("20 before 14", Step, 14),
     before!("20 before 5", RhieChowPredictedFlux, 5),

@@ -4,9 +4,9 @@ use crate::calls::{self, Outcome};
 use crate::cases;
 use crate::compare::patterned;
 use crate::entry::{Entry, Part};
-use crate::lent::{Lent, FACE_WIDTH, OWN};
+use crate::lent::{Lent, Slices, FACE_WIDTH, OWN};
 use crate::makers::{self, Walls};
-use crate::port::{Answer, Port};
+use crate::port::{Answer, Call, Port};
 use crate::random::Random;
 use flursys::simple::access::{continuity_metrics, pressure_coupling_gradient};
 use flursys::LeastSquaresGradientStencil;
@@ -35,10 +35,10 @@ pub fn run(port: &Port) {
             "\n{name}: {} cells, {} faces",
             lent.counts.cells, lent.counts.faces
         );
-        println!("{:42} {:>8} {:>8} {:>8}", "", "Rust", "port", "ratio");
+        println!("{:45} {:>8} {:>8} {:>8}", "", "Rust", "port", "ratio");
         for entry in Entry::ALL {
             let times = entry_times(port, entry, &lent);
-            println!("{:42} {}", entry.name(), row(times));
+            println!("{:45} {}", entry.name(), row(times));
         }
     }
     corrections(port);
@@ -73,16 +73,19 @@ fn corrections(port: &Port) {
 /// The checks by themselves: calls that the last of them refuses, 6 at the highest face with one cell, 20 at the
 /// last face.
 fn checks(port: &Port) {
-    let (some, all) = (
+    let entries = [
         Entry::CorrectFaceFluxWithBoundary,
+        Entry::GaussGradientFromFaces,
+        Entry::PressureCouplingGradient,
         Entry::LeastSquaresStencil,
-    );
-    let (Some(links), Some(whole)) = (port.call(some), port.call(all)) else {
+    ];
+    let calls = entries.map(|entry| port.call(entry));
+    let [Some(links), Some(grid), Some(linked), Some(whole)] = calls else {
         return;
     };
     println!(
-        "\nthe checks, ns per face: {:>26} {:>10}",
-        "adjacency with links", "all"
+        "\nthe checks, ns per face: {:>26} {:>17} {:>17} {:>10}",
+        "adjacency with links", "grid", "grid with links", "all"
     );
     for (name, made) in meshes() {
         let good = ordinary(&made);
@@ -94,18 +97,24 @@ fn checks(port: &Port) {
         let mut wrong_distance = good.clone();
         let last = good.counts.faces - 1;
         wrong_distance.slices.geometry[FACE_WIDTH * last + OWN] = 0.0;
-        let (mut first, mut second) = (patterned(some, &good), patterned(all, &good));
-        let mut linked = || {
-            let answer = links(black_box(&bad_link), &mut first);
+        let mut outputs = entries.map(|entry| patterned(entry, &good));
+        let [first, second, third, fourth] = &mut outputs;
+        let mut of_links = || {
+            let answer = links(black_box(&bad_link), first);
             assert_eq!(answer, Answer::Refused(6, face));
         };
-        let mut every = || {
-            let answer = whole(black_box(&wrong_distance), &mut second);
+        let refused = |call: &Call, outputs: &mut Slices| {
+            let answer = call(black_box(&wrong_distance), outputs);
             assert_eq!(answer, Answer::Refused(20, last));
         };
-        let times = least([&mut linked, &mut every]);
-        let [some, all] = times.map(|time| time / good.counts.faces as f64);
-        println!("{name:28} {some:22.2} {all:10.2}");
+        let times = least([
+            &mut of_links,
+            &mut || refused(grid, second),
+            &mut || refused(linked, third),
+            &mut || refused(whole, fourth),
+        ]);
+        let [links, grid, linked, all] = times.map(|time| time / good.counts.faces as f64);
+        println!("{name:28} {links:22.2} {grid:17.2} {linked:17.2} {all:10.2}");
     }
 }
 

@@ -21,7 +21,8 @@ pub struct Writing {
     pub side: fn(Entry, &Lent, usize) -> Side,
     /// The value of a face between two pressures, at these distances.
     pub between: fn([f64; 2], [f64; 2]) -> f64,
-    /// The value of a face with nothing on its other side.
+    /// The value of a face with nothing on its other side. The +0.0 that is added shows in no gradient: sums start at
+    /// +0.0, which no zero changes.
     pub alone: fn(&Lent, usize, f64) -> f64,
     /// The sums of all cells, of the values of the faces.
     pub sums: fn(&Lent, &[f64]) -> Vec<[f64; 3]>,

@@ -21,7 +21,7 @@ use gradients::Gradients;
 use std::fmt::Write;
 
 /// What every output holds before a call.
-const PATTERN: u64 = 0xa5a5_a5a5_a5a5_a5a5;
+pub const PATTERN: u64 = 0xa5a5_a5a5_a5a5_a5a5;
 
 /// Roots that are compared for each case.
 const ROOTS_PER_CASE: usize = 2_000;

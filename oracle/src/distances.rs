@@ -2,13 +2,12 @@
 //! and by the coefficients without and with links. The tables here are those of `crates/distances/src`, in the same
 //! order and by the same names. The answers are the model's and the Rust's.
 
-use crate::calls::Outcome;
 use crate::checks;
 use crate::compare::{expected, patterned};
 use crate::damage::{self, Count, Damage};
 use crate::entry::{Entry, Part, Part::*};
 use crate::lent::{Counts, Lent, Slices, FACE_WIDTH};
-use crate::makers;
+use crate::lines::told;
 use std::fmt::Write;
 use Change::{
     Dimension, FaceRecords, Faces, Flipped, Float, Length, Number, Refilled, Responses, Whole,
@@ -398,19 +397,5 @@ fn result(entry: Entry, lent: &Lent, changes: &[Change]) -> String {
     for change in changes {
         change.make(entry, &mut lent, &mut outputs);
     }
-    let outcome = expected(entry, &lent, &outputs);
-    let mut contents = outcome.contents(entry, &outputs);
-    makers::canonical(&mut contents);
-    let mut text = match outcome {
-        Outcome::Accepted(_) => "accepted,".to_string(),
-        Outcome::Refused(refusal) => {
-            format!("refused {} at {},", refusal.number, refusal.index)
-        }
-    };
-    for &part in entry.outputs() {
-        for word in contents.slice(part).words() {
-            let _ = write!(text, " {word:016x}");
-        }
-    }
-    text
+    told(entry, &expected(entry, &lent, &outputs), &outputs)
 }

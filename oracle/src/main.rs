@@ -11,7 +11,9 @@ mod distances;
 mod edges;
 mod entry;
 mod exact;
+mod gradients;
 mod lent;
+mod lines;
 mod list;
 mod makers;
 mod mirror;
@@ -31,6 +33,7 @@ usage: oracle COMMAND
   edges                            the lines of the program `edges`
   oneslice                         the lines of the program `oneslice`
   distances                        the lines of the program `distances`
+  gradients                        the lines of the program `gradients`
   sheets FILE...                   the port against the Rust, on sheets of the sheet program
   bench                            times of both sides
   self-test [--seed S] [--cases N] the comparison tried on the Rust itself and on spoiled copies of it
@@ -67,6 +70,7 @@ fn main() -> ExitCode {
         "edges" => print!("{}", edges::text()),
         "oneslice" => print!("{}", edges::in_place()),
         "distances" => print!("{}", distances::text()),
+        "gradients" => print!("{}", gradients::text()),
         "bench" => bench::run(&port::linked()),
         "coverage-cases" => coverage::run(&settings),
         _ => return refused(),

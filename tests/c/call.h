@@ -35,11 +35,9 @@ struct entry {
     int clears, over;
 };
 
-/* So many of them, from the first, have stored lines. */
-enum {
-    STORED = 12, GAUSS_GRADIENT_FROM_FACES = STORED, PRESSURE_COUPLING_GRADIENT,
-    PRESSURE_COUPLING_GRADIENT_WITHOUT_CONDITIONS, FACE_DISTANCES, ENTRIES
-};
+/* The first have stored lines, in crates/edges and crates/oneslice up to the gradients by Gauss, whose lines
+ * stand in crates/gradients; juvandeer_face_distances, the last, has none. */
+enum { GAUSS_GRADIENT_FROM_FACES = 12, STORED = 15, FACE_DISTANCES = STORED, ENTRIES };
 
 extern const struct entry entries[ENTRIES];
 
@@ -54,5 +52,9 @@ void lend(struct call *call, const struct entry *entry);
 /* Makes the change of that name, and where a centre may be another the distances; 0 where there is none, or
  * where the distances are refused. */
 int change(struct call *call, const char *entry, const char *name);
+
+/* The mesh of crates/gradients in place of the base, with the change of that name there; 0 where there is
+ * none, or where its distances are refused. */
+int lend_gradient(struct call *call, const struct entry *entry, const char *name);
 
 #endif

@@ -2,8 +2,8 @@
 #ifndef JUDGE_H
 #define JUDGE_H
 
-/* Makes the call that a line of crates/edges/stdout or crates/oneslice/stdout names, and holds its answer
- * and outputs to it. */
+/* Makes the call that a line of crates/edges/stdout, crates/oneslice/stdout or crates/gradients/stdout
+ * names, and holds its answer and outputs to it. */
 void judge_line(char *line);
 
 /* Every function of the library but juvandeer_face_distances was called by a line: accepted, refused by a

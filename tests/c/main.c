@@ -1,7 +1,8 @@
 /* Calls every function of include/juvandeer.h. Its arguments are the stored list of roots,
  * crates/roots/stdin, the lines on sentences, crates/sentences/stdout, and files with stored lines on calls
- * of entries, crates/edges/stdout and crates/oneslice/stdout: what it expects comes from the original Rust,
- * from MPFR and from document 02, not from the engine. Writes `N passed, 0 failed`, or what is wrong. */
+ * of entries, crates/edges/stdout, crates/oneslice/stdout and crates/gradients/stdout: what it expects comes
+ * from the original Rust, from MPFR and from document 02, not from the engine. Writes `N passed, 0 failed`,
+ * or what is wrong. */
 #include "judge.h"
 #include "report.h"
 

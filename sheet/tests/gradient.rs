@@ -2,7 +2,7 @@
 
 mod common;
 
-use common::{gradients, printed, CUBES, SQUARES};
+use common::{gradients, printed, stored_by, CUBES, SQUARES};
 use sheet::{AnySheet, FaceValues, GradientSheet};
 
 /// The gradients that are printed of a sheet, as numbers.
@@ -15,6 +15,26 @@ fn read(sheet: &str) -> GradientSheet {
     match AnySheet::read(sheet.as_bytes()) {
         Ok(AnySheet::Gradient(sheet)) => sheet,
         other => panic!("{other:?}"),
+    }
+}
+
+/// Of a pressure with conditions and links, of the pressure alone, and of values at the faces.
+#[test]
+fn the_stored_bits() {
+    let sheet = std::fs::read_to_string(common::own("gradient.sheet")).unwrap();
+    let (alone, _) = sheet.split_once("conditions").unwrap();
+    let (mesh, _) = sheet.split_once("pressure").unwrap();
+    let values = ["0.3", "-1.1", "0.7", "2.0", "-0.4", "0.9", "1.3"];
+    let values = values.iter().enumerate();
+    let values: String = values.map(|(face, x)| format!("{face} {x}\n")).collect();
+    let given = format!("{mesh}face-value\n{values}");
+    for (sheet, entry) in [
+        (sheet.as_str(), "pressure_coupling_gradient"),
+        (alone, "pressure_coupling_gradient_without_conditions"),
+        (&given, "gauss_gradient_from_faces"),
+    ] {
+        let expected = stored_by("gradients", entry, "as it stands");
+        assert_eq!(vec![gradients(&printed(sheet)).concat()], expected);
     }
 }
 

@@ -4,21 +4,11 @@
 
 mod common;
 
-use common::{base, Base, Made};
-use juvandeer::{Condition, Dimension, Mesh, Refusal, Stencil};
-use std::fs;
-use std::path::Path;
-
-/// Outputs as words, or the refusal.
-type Answer = Result<Vec<Vec<u64>>, Refusal>;
+use common::{answer, base, floats, stored, words, Answer, Base, Made};
+use juvandeer::{Condition, Dimension, Mesh, Stencil};
 
 /// Makes a call and gives its outputs in the library's order.
 type Call = fn(&Made) -> Answer;
-
-fn stored(program: &str) -> String {
-    let crates = Path::new(env!("CARGO_MANIFEST_DIR")).join("../../crates");
-    fs::read_to_string(crates.join(program).join("stdout")).expect("the stored lines are at hand")
-}
 
 /// What stands behind the name of a case in its stored line.
 fn line(entry: &str, case: &str) -> String {
@@ -29,30 +19,9 @@ fn line(entry: &str, case: &str) -> String {
     line.to_owned()
 }
 
-fn words(output: &str) -> Vec<u64> {
-    let words = output.split_whitespace();
-    words
-        .map(|word| u64::from_str_radix(word, 16).unwrap())
-        .collect()
-}
-
 /// The answer that is stored for a case.
 fn expected(entry: &str, case: &str) -> Answer {
-    let answer = line(entry, case);
-    if let Some(outputs) = answer.strip_prefix("accepted, ") {
-        return Ok(outputs.split(", ").map(words).collect());
-    }
-    let refusal = answer.strip_prefix("refused ").expect("an answer");
-    let (number, rest) = refusal.split_once(" at ").expect("an index");
-    let index = rest.split(',').next().unwrap_or_default();
-    Err(Refusal::new(
-        number.parse().unwrap(),
-        index.parse().unwrap(),
-    ))
-}
-
-fn floats(values: &[f64]) -> Vec<u64> {
-    values.iter().map(|x| x.to_bits()).collect()
+    answer(&line(entry, case))
 }
 
 fn wholes(values: &[usize]) -> Vec<u64> {

@@ -154,8 +154,13 @@ pub fn changed(sheet: &str, old: &str, new: &str) -> (String, usize) {
 
 /// The words of a stored line of `crates/edges`, output by output.
 pub fn stored(entry: &str, case: &str) -> Vec<Vec<u64>> {
+    stored_by("edges", entry, case)
+}
+
+/// Those of a stored line of another program.
+pub fn stored_by(program: &str, entry: &str, case: &str) -> Vec<Vec<u64>> {
     let start = format!("{entry}, {case}: accepted, ");
-    let lines = text("crates/edges/stdout");
+    let lines = text(&format!("crates/{program}/stdout"));
     let mut found = lines.lines().filter_map(|line| line.strip_prefix(&start));
     let outputs = found.next().unwrap_or_else(|| panic!("no line {start}"));
     let words = |output: &str| {

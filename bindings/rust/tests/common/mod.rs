@@ -2,9 +2,45 @@
 #![allow(dead_code)]
 
 use juvandeer::{
-    Cell, CellField, Condition, Conditions, Dimension, Face, FaceField, Mesh, Stencil, StepInput,
-    Vec3, VectorField,
+    Cell, CellField, Condition, Conditions, Dimension, Face, FaceField, Mesh, Refusal, Stencil,
+    StepInput, Vec3, VectorField,
 };
+use std::fs;
+use std::path::Path;
+
+/// Outputs as words, or the refusal.
+pub type Answer = Result<Vec<Vec<u64>>, Refusal>;
+
+/// The stored lines of a program.
+pub fn stored(program: &str) -> String {
+    let crates = Path::new(env!("CARGO_MANIFEST_DIR")).join("../../crates");
+    fs::read_to_string(crates.join(program).join("stdout")).expect("the stored lines are at hand")
+}
+
+/// The answer that is told behind the name of a case.
+pub fn answer(told: &str) -> Answer {
+    if let Some(outputs) = told.strip_prefix("accepted, ") {
+        return Ok(outputs.split(", ").map(words).collect());
+    }
+    let refusal = told.strip_prefix("refused ").expect("an answer");
+    let (number, rest) = refusal.split_once(" at ").expect("an index");
+    let index = rest.split(',').next().unwrap_or_default();
+    Err(Refusal::new(
+        number.parse().unwrap(),
+        index.parse().unwrap(),
+    ))
+}
+
+pub fn words(output: &str) -> Vec<u64> {
+    let words = output.split_whitespace();
+    words
+        .map(|word| u64::from_str_radix(word, 16).unwrap())
+        .collect()
+}
+
+pub fn floats(values: &[f64]) -> Vec<u64> {
+    values.iter().map(|x| x.to_bits()).collect()
+}
 
 /// Two unit squares side by side, with the names and numbers of `oracle/src/edges.rs`: face 0 joins cells 0 and
 /// 1; faces 1 and 2, to the left and to the right, are linked; faces 3 and 4 are below and above cell 0, faces

@@ -6,8 +6,8 @@ use crate::compare;
 use crate::entry::Entry;
 use crate::lent::{Counts, Lent, Slices};
 use crate::port::Port;
-use engine::Dimension;
-use sheet::{CorrectionFields, Fields, Momentum, Sheet, StepFields};
+use engine::{Conditions, Dimension, Mesh};
+use sheet::{AnySheet, CorrectionFields, FaceValues, Fields, Momentum, StepFields};
 use std::path::Path;
 
 /// Compares on every file, and gives whether all were read and all agreed.
@@ -16,7 +16,7 @@ pub fn run(port: &Port, files: &[String]) -> bool {
     let mut all = !files.is_empty();
     for file in files {
         let read = sheet::files::contents(Path::new(file))
-            .and_then(|bytes| Sheet::read(&bytes).map_err(|mistake| mistake.in_file(file)));
+            .and_then(|bytes| AnySheet::read(&bytes).map_err(|mistake| mistake.in_file(file)));
         match read {
             Ok(sheet) => {
                 let (entries, lent) = lent(&sheet);
@@ -38,8 +38,26 @@ pub fn run(port: &Port, files: &[String]) -> bool {
 }
 
 /// What a sheet lends, and the entries that it lends enough for.
-fn lent(sheet: &Sheet) -> (Vec<Entry>, Lent) {
-    let mesh = &sheet.mesh;
+fn lent(sheet: &AnySheet) -> (Vec<Entry>, Lent) {
+    match sheet {
+        AnySheet::Fluxes(sheet) => {
+            let mut lent = of_mesh(&sheet.mesh, &sheet.conditions);
+            let entries = match &sheet.fields {
+                Fields::Step(fields) => of_step(fields, &mut lent),
+                Fields::Correction(fields) => of_correction(fields, &mut lent),
+            };
+            (entries, lent)
+        }
+        AnySheet::Gradient(sheet) => {
+            let absent = Conditions::absent(&sheet.mesh);
+            let conditions = sheet.conditions.as_ref().unwrap_or(&absent);
+            let mut lent = of_mesh(&sheet.mesh, conditions);
+            (of_gradient(&sheet.values, &mut lent), lent)
+        }
+    }
+}
+
+fn of_mesh(mesh: &Mesh, conditions: &Conditions) -> Lent {
     let counts = Counts {
         mesh: mesh.number(),
         dimension: match mesh.dimension() {
@@ -53,21 +71,32 @@ fn lent(sheet: &Sheet) -> (Vec<Entry>, Lent) {
     };
     let slices = Slices {
         adjacency: mesh.adjacency().to_vec(),
-        geometry: mesh.geometry_under(&sheet.conditions).to_vec(),
+        geometry: mesh.geometry_under(conditions).to_vec(),
         heads: mesh.heads().to_vec(),
         places: mesh.places().to_vec(),
         facing: mesh.facing().to_vec(),
         bordering: mesh.bordering().to_vec(),
-        codes: sheet.conditions.codes().to_vec(),
-        values: sheet.conditions.values().to_vec(),
+        codes: conditions.codes().to_vec(),
+        values: conditions.values().to_vec(),
         ..Slices::default()
     };
-    let mut lent = Lent::of(counts, mesh.stencil_room(), slices);
-    let entries = match &sheet.fields {
-        Fields::Step(fields) => of_step(fields, &mut lent),
-        Fields::Correction(fields) => of_correction(fields, &mut lent),
-    };
-    (entries, lent)
+    Lent::of(counts, mesh.stencil_room(), slices)
+}
+
+fn of_gradient(values: &FaceValues, lent: &mut Lent) -> Vec<Entry> {
+    match values {
+        FaceValues::Given(values) => {
+            lent.slices.face_values = values.values().to_vec();
+            vec![Entry::GaussGradientFromFaces]
+        }
+        FaceValues::Pressure(pressure) => {
+            lent.slices.pressure = pressure.values().to_vec();
+            vec![
+                Entry::PressureCouplingGradient,
+                Entry::PressureCouplingGradientWithoutConditions,
+            ]
+        }
+    }
 }
 
 fn of_step(fields: &StepFields, lent: &mut Lent) -> Vec<Entry> {

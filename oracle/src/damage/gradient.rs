@@ -48,24 +48,25 @@ const NUMBERS: [f64; 10] = [
     f64::MIN,
 ];
 
-/// One to three such changes, distances made anew, and often what a check refuses beside them. What is lent is good.
+/// One kind of change.
+type Kind = fn(&mut Random, Entry, &mut Changed);
+
+/// One to three changes of what an entry reads, distances made anew, and often what a check refuses beside them. What is
+/// lent is good.
 pub fn of_gradients(random: &mut Random, entry: Entry, lent: &Lent) -> Option<Vec<Damage>> {
     if !entry.is_gauss() || lent.counts.faces == 0 {
         return None;
     }
+    let mut kinds: Vec<Kind> = vec![volumes, volumes, areas, numbers];
+    if entry.lends(Part::Pressure) {
+        kinds.extend([centres as Kind, centres]);
+    }
+    if entry.lends(Part::Codes) {
+        kinds.extend([conditions as Kind, links, links]);
+    }
     let mut changed = Changed::of(lent);
-    let reads_pressure = entry.lends(Part::Pressure);
-    let reads_conditions = entry.lends(Part::Codes);
     for _ in 0..random.pick(&[1, 1, 2, 3]) {
-        match random.below(12) {
-            0..=2 => volumes(random, &mut changed),
-            3 => areas(random, &mut changed),
-            4 => numbers(random, entry, &mut changed),
-            5 if reads_conditions => conditions(random, &mut changed),
-            6..=8 if reads_conditions => links(random, &mut changed),
-            9..=11 if reads_pressure => centres(random, reads_conditions, &mut changed),
-            _ => volumes(random, &mut changed),
-        }
+        random.pick(&kinds)(random, entry, &mut changed);
     }
     if changed.damages.iter().any(|damage| damage.moves()) {
         changed.make(Damage::Refilled);
@@ -79,7 +80,7 @@ pub fn of_gradients(random: &mut Random, entry: Entry, lent: &Lent) -> Option<Ve
 }
 
 /// Volumes at the first cell, at the second alone, at the last, or at some.
-fn volumes(random: &mut Random, changed: &mut Changed) {
+fn volumes(random: &mut Random, _: Entry, changed: &mut Changed) {
     let cells = changed.lent.counts.cells;
     let mut named = match random.below(5) {
         0 => vec![0],
@@ -102,7 +103,7 @@ fn volumes(random: &mut Random, changed: &mut Changed) {
 }
 
 /// One number of an area vector, or all three.
-fn areas(random: &mut Random, changed: &mut Changed) {
+fn areas(random: &mut Random, _: Entry, changed: &mut Changed) {
     for _ in 0..random.between(1, 3) {
         let first = FACE_WIDTH * random.below(changed.lent.counts.faces) + 3;
         let axes = match random.chance(1, 2) {
@@ -119,7 +120,7 @@ fn areas(random: &mut Random, changed: &mut Changed) {
     }
 }
 
-/// Some of the numbers that the gradient is taken of, or all of one kind.
+/// Some of the numbers that the gradient is taken of, or up to 16 of them alike.
 fn numbers(random: &mut Random, entry: Entry, changed: &mut Changed) {
     let part = match entry.lends(Part::Pressure) {
         true => Part::Pressure,
@@ -148,7 +149,7 @@ fn number(random: &mut Random) -> f64 {
 }
 
 /// Conditions of some faces, whatever their cells and links: absent ones, fixed values, zero gradient.
-fn conditions(random: &mut Random, changed: &mut Changed) {
+fn conditions(random: &mut Random, _: Entry, changed: &mut Changed) {
     for _ in 0..random.between(1, 4) {
         let face = random.below(changed.lent.counts.faces);
         let code = random.below(3);
@@ -183,7 +184,7 @@ fn one_cell_faces(lent: &Lent) -> [Vec<usize>; 2] {
 }
 
 /// A link where there is none, or another translation; and a condition beside a link, mostly a fixed value.
-fn links(random: &mut Random, changed: &mut Changed) {
+fn links(random: &mut Random, _: Entry, changed: &mut Changed) {
     let [linked, mut walls] = one_cell_faces(&changed.lent);
     let face = if !linked.is_empty() && random.chance(3, 4) {
         let face = random.pick(&linked);
@@ -223,7 +224,7 @@ fn translate(random: &mut Random, changed: &mut Changed, face: usize) {
 }
 
 /// Centres elsewhere throughout; or a face's centre that of its owner, of the other side, or all three in one place.
-fn centres(random: &mut Random, has_links: bool, changed: &mut Changed) {
+fn centres(random: &mut Random, entry: Entry, changed: &mut Changed) {
     if random.chance(1, 3) {
         changed.make(Damage::Centres(any_spread(random), random.next()));
         return;
@@ -233,7 +234,7 @@ fn centres(random: &mut Random, has_links: bool, changed: &mut Changed) {
     let owner = slices.adjacency[2 * face];
     let peer = slices.codes[2 * face + 1].checked_sub(1);
     let (other, is_linked) = match (slices.adjacency[2 * face + 1], peer) {
-        (0, Some(peer)) if has_links => (Some(slices.adjacency[2 * peer]), true),
+        (0, Some(peer)) if entry.lends(Part::Codes) => (Some(slices.adjacency[2 * peer]), true),
         (0, _) => (None, false),
         (neighbour, _) => (Some(neighbour - 1), false),
     };
@@ -242,12 +243,11 @@ fn centres(random: &mut Random, has_links: bool, changed: &mut Changed) {
         true => [0, 1, 2].map(|axis| at[axis] - slices.values[4 * face + 1 + axis]),
         false => at,
     };
-    let beyond = other.map(|cell| shift(of_cell(cell)));
+    let beyond = other.map(|cell| (cell, shift(of_cell(cell))));
     let own = of_cell(owner);
     match (random.below(4), beyond) {
-        (0, Some(beyond)) => place_face(changed, face, beyond),
-        (1 | 2, Some(_)) => {
-            let other = other.expect("there is another side");
+        (0, Some((_, center))) => place_face(changed, face, center),
+        (1 | 2, Some((other, _))) => {
             for (axis, x) in own.into_iter().enumerate() {
                 changed.make(Damage::Float(Part::Places, 4 * other + axis, x));
                 if is_linked {
@@ -274,7 +274,7 @@ fn place_face(changed: &mut Changed, face: usize, center: [f64; 3]) {
     }
 }
 
-/// What a check before arithmetic refuses: a mesh number, a distance, a link, a face or a cell of too many.
+/// What a check before arithmetic refuses: a mesh number, a distance, links, or too many faces.
 fn beside(random: &mut Random, entry: Entry, changed: &mut Changed) {
     let counts = changed.lent.counts;
     let face = random.below(counts.faces);

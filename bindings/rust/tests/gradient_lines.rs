@@ -201,7 +201,7 @@ const BEYOND: [&str; 15] = [
     "adjacency one short",
     "geometry one long",
     "places one short",
-    "output one long",
+    "output one short",
     "owner of face 3 missing",
     "65536 face records counted",
     "no translation of face 1",

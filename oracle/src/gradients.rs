@@ -272,14 +272,6 @@ const OF_CONDITIONS: &[Case] = &[
     ),
 ];
 
-fn cases(entry: Entry) -> [&'static [Case]; 3] {
-    match entry {
-        Entry::GaussGradientFromFaces => [ALL, OF_FACES, &[]],
-        Entry::PressureCouplingGradient => [ALL, OF_PRESSURE, OF_CONDITIONS],
-        _ => [ALL, OF_PRESSURE, &[]],
-    }
-}
-
 /// Numbers that are handed out, and how many records there are for them.
 const HANDED: &[(&str, &[f64], usize)] = &[
     (
@@ -297,10 +289,23 @@ const HANDED: &[(&str, &[f64], usize)] = &[
 pub fn text() -> String {
     let mut text = String::new();
     let made = made();
-    for entry in Entry::of_gauss() {
-        for (name, changes) in cases(entry).concat() {
-            let name = format!("{}, {name}", entry.name());
-            add_case(&mut text, &name, entry, &made, changes);
+    let of_pressure = [
+        Entry::PressureCouplingGradient,
+        Entry::PressureCouplingGradientWithoutConditions,
+    ];
+    let all: Vec<Entry> = Entry::of_gauss().collect();
+    let tables = [
+        (&all[..], ALL),
+        (&[Entry::GaussGradientFromFaces], OF_FACES),
+        (&of_pressure, OF_PRESSURE),
+        (&[Entry::PressureCouplingGradient], OF_CONDITIONS),
+    ];
+    for (entries, cases) in tables {
+        for &entry in entries {
+            for (name, changes) in cases {
+                let name = format!("{}, {name}", entry.name());
+                add_case(&mut text, &name, entry, &made, changes);
+            }
         }
     }
     for &(name, numbers, records) in HANDED {

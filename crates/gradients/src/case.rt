@@ -14,6 +14,10 @@ pub enum Entry {
     WithoutConditions,
 }
 
+impl Entry {
+    pub const ALL: [Entry; 3] = [Entry::OfFaces, Entry::OfPressure, Entry::WithoutConditions];
+}
+
 impl fmt::Display for Entry {
     fn fmt<W: fmt::Write>(&self, f: &mut fmt::Formatter<W>) -> fmt::Result {
         f.write_str(match self {
@@ -59,6 +63,9 @@ const GEOMETRY: [f64; 77] = [
     0.25, 0.6, 1.0, 0.0, 0.1, 1.3, 0.0, 0.0, 1.0, -1.0, -1.0, // face 5
     1.0, 0.2, -0.3, -0.4, 0.3, -0.7, 0.0, 0.0, -1.0, -1.0, -1.0, // face 6
 ];
+
+// Face 3 again.
+const FACE_3: [f64; 11] = [0.5, -0.2, 0.4, 0.1, -1.0, 0.2, 0.0, -1.0, 0.0, -1.0, -1.0];
 
 const PLACES: [f64; 8] = [0.25, 0.5, 0.125, 1.7, 1.75, 0.25, -0.25, 0.7];
 
@@ -161,12 +168,7 @@ impl Case {
     // Adds a face like face 3.
     pub(crate) fn add_face(&mut self) -> Result<(), AllocError> {
         self.adjacency.extend_from_slice(&[0, 0])?;
-        for i in 33..44 {
-            if let Some(x) = self.geometry.get(i) {
-                let x = *x;
-                self.geometry.push(x)?;
-            }
-        }
+        self.geometry.extend_from_slice(&FACE_3)?;
         self.codes.extend_from_slice(&[1, 0])?;
         self.values.extend_from_slice(&[4.0, 0.0, 0.0, 0.0])?;
         self.face_values.push(2.0)?;

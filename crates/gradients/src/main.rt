@@ -5,7 +5,7 @@
 // was taken from a run.
 #![tactic(auto)]
 
-use crate::case::{Case, Entry};
+use crate::case::Entry;
 use crate::change::Change;
 use mesh::Answer;
 use pattern::fill;
@@ -42,33 +42,44 @@ fn hand_out<R: Print + AllocGlobal>(rt: &R, numbers: &[f64], count: usize) -> io
     tell(rt, answer, &words)
 }
 
-fn calls<R: Print + AllocGlobal>(
+fn call<R: Print + AllocGlobal>(
     rt: &R,
     entry: Entry,
+    name: &str,
+    changes: &[Change],
+) -> io::Result<()> {
+    let case = case::made(rt.alloc(), changes)?;
+    let mut out = vec![in rt.alloc(); fill(); case.outs]?;
+    let answer = case.call(entry, &mut out);
+    print!(rt; "{entry}, {name}: ")?;
+    tell(rt, answer, &out)?;
+    if answer.is_ok() {
+        print!(rt; "{entry}, {name}, as records: ")?;
+        hand_out(rt, &out, case.counts.cells)?;
+    }
+    Ok(())
+}
+
+// Each of these entries on each of these cases.
+fn calls<R: Print + AllocGlobal>(
+    rt: &R,
+    entries: &[Entry],
     cases: &[(&str, &[Change])],
 ) -> io::Result<()> {
-    for (name, changes) in cases {
-        let case = case::made(rt.alloc(), changes)?;
-        let mut out = vec![in rt.alloc(); fill(); case.outs]?;
-        let answer = case.call(entry, &mut out);
-        print!(rt; "{entry}, {name}: ")?;
-        tell(rt, answer, &out)?;
-        if answer.is_ok() {
-            print!(rt; "{entry}, {name}, as records: ")?;
-            hand_out(rt, &out, case.counts.cells)?;
+    for entry in entries {
+        for (name, changes) in cases {
+            call(rt, *entry, name, changes)?;
         }
     }
     Ok(())
 }
 
 fn main(rt: HostRuntime) -> io::Result<()> {
-    calls(&rt, Entry::OfFaces, cases::ALL)?;
-    calls(&rt, Entry::OfFaces, cases::OF_FACES)?;
-    calls(&rt, Entry::OfPressure, cases::ALL)?;
-    calls(&rt, Entry::OfPressure, cases::OF_PRESSURE)?;
-    calls(&rt, Entry::OfPressure, cases::OF_CONDITIONS)?;
-    calls(&rt, Entry::WithoutConditions, cases::ALL)?;
-    calls(&rt, Entry::WithoutConditions, cases::OF_PRESSURE)?;
+    let of_pressure = [Entry::OfPressure, Entry::WithoutConditions];
+    calls(&rt, &Entry::ALL, cases::ALL)?;
+    calls(&rt, &[Entry::OfFaces], cases::OF_FACES)?;
+    calls(&rt, &of_pressure, cases::OF_PRESSURE)?;
+    calls(&rt, &[Entry::OfPressure], cases::OF_CONDITIONS)?;
     for (name, numbers, count) in cases::HANDED {
         print!(rt; "hand_out, {name}: ")?;
         hand_out(&rt, numbers, *count)?;

@@ -1,6 +1,6 @@
 // The arithmetic of one face and of one cell in the coupling of pressure and velocity, in the Rust's
 // order of float operations. A face is given by its two sides: its owner's and the other, which is
-// that of its neighbour or, at a linked face, of the peer's owner.
+// that of its neighbour or, at a linked face, of the peer's owner. And check 2 of the slices that are read of a face.
 #![tactic(auto)]
 
 ghost use Rattle.std.specs.Prelude.{◌≡◌};

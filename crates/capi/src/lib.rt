@@ -665,7 +665,7 @@ pub extern "C" fn juvandeer_step<'a>(
         let d = inputs_lent m k records velocity velocities pressure pressures response responses wall walls correction corrections in
         let old = outputs_before starts equations weights inverses gradient predicted coefficients flux outflow metrics in
         let new = outputs_after starts equations weights inverses gradient predicted coefficients flux outflow metrics in
-        let demanded : Answer → Type 0 = λ a. Demanded a d flux.new outflow.new in
+        let demanded : Answer → Type 0 = λ a. Demanded a d predicted.new flux.new outflow.new in
         Told (λ (a : Answer). StepCall d old a new × demanded a) result index.new }
 {
     let mesh = Mesh {

@@ -3,9 +3,8 @@ use Rattle.refusal.specs.declared.Reason.TheVariants.{BadCoefficient}
 use Rattle.mesh.specs.Answers.{Outcome, accepted}
 use Rattle.std.specs.Prelude.{Ok, Err}
 use mathlib.Core.Path.{◌≡◌, refl, sym, ap, ◌∙◌, subst}
-use mathlib.Core.List.{List}
 use mathlib.Core.Bool.{Bool, true, false, not, ◌&&◌, cond}
-use Prim.Native.Nat.{ℕ, suc, ◌-◌, ◌<◌}
+use Prim.Native.Nat.{ℕ, suc, ◌-◌}
 use native.Mathlib.Omega.{arith}
 use lib.Dec.{T, eqb-suc-zero}
 use lib.ListN.{length, get_or}
@@ -18,7 +17,7 @@ use Rattle.chain.specs.Pairs.{first_at, second_at}
 use Rattle.mesh.proofs.Values.{value_at}
 use Rattle.coupling.specs.Face.{corrected_flux}
 use Rattle.corrector.specs.Correction.{Correcting, Correctable, wall_flux, corrected_flux_at, correction_answer, corrected_fluxes}
-use Rattle.corrector.specs.Promise.{Boundary, Free, KeepsFree, KeepsOpposite, Promise, boundary_of}
+use Rattle.corrector.specs.Promise.{Free, KeepsFree, KeepsOpposite, Promise, boundary_of}
 
 same_value : (s : Outcome) (v w : Float) → s ≡ Ok v → s ≡ Ok w → v ≡ w
 same_value s v w p q = cc
@@ -81,17 +80,3 @@ keeps_opposite m good ok f g hf hg l h k =
 
 pub promised : (m : Correcting) → Correctable m → correction_answer m ≡ accepted → Promise (boundary_of m) (corrected_fluxes m)
 promised m good ok = record { free = keeps_free m ok; opposite = keeps_opposite m good ok }
-
--- ---- other given fluxes that are the same at one-cell faces, such as the wall fluxes from which a prediction starts
-abbrev pub with_given : Boundary → (ℕ → Float) → Boundary
-with_given t h = record { faces = t.faces; neighbour = t.neighbour; peer = t.peer; code = t.code; given = h; coefficient = t.coefficient }
-
-pub carried : (t : Boundary) (h : ℕ → Float) (l : List Float) → ((f : ℕ) → f < t.faces → t.neighbour f ≡ 0 → t.given f ≡ h f)
-    → ((f : ℕ) → f < t.faces → (t.peer f ≡ 0 → ⊥) → t.neighbour f ≡ 0) → Promise t l → Promise (with_given t h) l
-carried t h l same one p = record {
-  free = λ f k e. p.free f k e ∙ same f k e.0;
-  opposite = λ f g hf hg e o k.
-      let a : t.given f ≡ h f = same f hf (one f hf (not_none (t.peer f) g e.0)) in
-      let b : t.given g ≡ h g = same g hg (one g hg (not_none (t.peer g) f e.1)) in
-      p.opposite f g hf hg e (subst (λ (x : Float). Opposite x (t.given g)) (sym a) (subst (λ (x : Float). Opposite (h f) x) (sym b) o)) k;
-}

@@ -1,33 +1,36 @@
 -- An accepted step meets demand 3. Assumes nothing.
 use Rattle.std.specs.Prelude.{Option, None, Some}
-use mathlib.Core.Path.{◌≡◌, refl, sym, subst}
-use Prim.Native.Nat.{ℕ, ◌<◌}
+use mathlib.Core.Path.{◌≡◌, refl, sym, ap, subst, ◌∙◌}
+use mathlib.Core.Logic.{inl, inr}
+use Prim.Native.Nat.{ℕ, suc, ◌<◌}
+use native.Mathlib.Nat.{eq-or-lt_of_le}
+use native.Mathlib.Omega.{arith}
 use lib.Dec.{T}
 use lib.ListN.{length, get_or}
-use lib.Ieee.{nan, binary64, fits}
+use lib.Ieee.{nan, binary64, fits, neg}
 use lib.Ieee.Scale.{finite}
 use borrow.Author.Tests.{not-false}
+use Rattle.std.proofs.lemmas.Bool.Decides.{leb_tells}
 use Rattle.binary64.specs.Numbers.{is_finite}
-use Rattle.mesh.specs.Answers.{first_of, accepted}
+use Rattle.binary64.specs.Units.{Opposite}
+use Rattle.binary64.proofs.Opposites.{neg-neg}
+use Rattle.mesh.specs.Answers.{or_else, accepted}
 use Rattle.chain.specs.Search.{lowest_where}
 use Rattle.mesh.proofs.Facts.{both_accepted}
 use Rattle.chain.proofs.Search.{none_below}
-use Rattle.mesh.specs.Mesh.{bounds_of}
-use Rattle.stencil.specs.Lent.{lent_of}
 use Rattle.numerics.specs.Outflow.{faces_of}
-use Rattle.stencil.specs.Stencil.{stencil_answer}
 use Rattle.balance.proofs.Closes.{balances}
 use Rattle.balance.proofs.Few.{quoted}
 use Rattle.balance.specs.Balance.{Balanced}
-use Rattle.predictor.specs.Boundary.{boundary_answer}
+use Rattle.linked.specs.Linked.{linked_answer}
+use Rattle.linked.proofs.Pairs.{negated}
 use Rattle.corrector.specs.Correction.{correction_answer}
 use Rattle.corrector.specs.Metrics.{metrics_of, metrics_answer}
-use Rattle.predictor.specs.Prediction.{prediction_answer}
-use Rattle.corrector.specs.Promise.{Boundary, Promise, boundary_of}
-use Rattle.corrector.proofs.Promised.{promised, carried}
-use Rattle.scheme.specs.Step.{Inputs, Lendable, grid_of, flow_of, correcting_of, fluxes_of, outflows_of, spilled, endless, finite_answer, work_answer}
-use Rattle.scheme.specs.Demand.{walls_of, DemandThree}
-use Rattle.scheme.proofs.Parts.{predicted_size, fluxes_size, outflows_size, wall_kept, below, correctable, flows}
+use Rattle.corrector.specs.Promise.{Linked, KeepsFree, Promise, boundary_of}
+use Rattle.corrector.proofs.Promised.{promised}
+use Rattle.scheme.specs.Step.{Inputs, Lendable, unlinked_of, links_of, predicted_of, correcting_of, fluxes_of, outflows_of, spilled, endless, finite_answer, work_answer}
+use Rattle.scheme.specs.Demand.{walls_of, PredictsOpposite, LeavesOpposite, DemandThree}
+use Rattle.scheme.proofs.Parts.{unlinked_size, predicted_size, fluxes_size, outflows_size, wall_kept, correctable, flows, work_is, stencil_part, prediction_part, coefficients_part, links_part, correction_part, measured_part}
 
 nothing_spilled : (f : Option ℕ) → spilled f ≡ accepted → f ≡ None
 unfolding spilled
@@ -43,41 +46,62 @@ module _ (d : Inputs) (ready : Lendable d) where
 
   -- every flux is a number of binary64, as the slice that holds it says
   module _ (fit : (f : ℕ) → f < length (fluxes_of d) → T (fits binary64 (get_or (fluxes_of d) f nan))) (ok : work_answer d ≡ accepted) where
+    on_from_links : or_else (links_part d ready) (or_else (correction_part d ready) (measured_part d ready (outflows_of d))) ≡ accepted
+    on_from_links =
+        let one = both_accepted (stencil_part d ready) _ (sym (work_is d ready) ∙ ok) in
+        let two = both_accepted (prediction_part d ready) _ one.1 in
+        (both_accepted (coefficients_part d ready) _ two.1).1
+
+    links_ok : linked_answer (links_of d) (unlinked_of d) ≡ accepted
+    links_ok = (both_accepted (links_part d ready) _ on_from_links).0
+
+    on_from_correction : or_else (correction_part d ready) (measured_part d ready (outflows_of d)) ≡ accepted
+    on_from_correction = (both_accepted (links_part d ready) _ on_from_links).1
+
     corrected_ok : correction_answer (correcting_of d) ≡ accepted
-    unfolding work_answer first_of
-    corrected_ok =
-        let one = both_accepted (stencil_answer (lent_of d.mesh d.conditions) d.records) _ ok in
-        let two = both_accepted (prediction_answer (grid_of d) (flow_of d) d.walls.values) _ one.1 in
-        let three = both_accepted (boundary_answer (grid_of d) (bounds_of d.conditions) d.responses.values faces) _ two.1 in
-        (both_accepted (correction_answer (correcting_of d)) _ three.1).0
+    corrected_ok = (both_accepted (correction_part d ready) _ on_from_correction).0
 
     finite_ok : finite_answer (outflows_of d) ≡ accepted
-    unfolding work_answer first_of
     finite_ok =
-        let one = both_accepted (stencil_answer (lent_of d.mesh d.conditions) d.records) _ ok in
-        let two = both_accepted (prediction_answer (grid_of d) (flow_of d) d.walls.values) _ one.1 in
-        let three = both_accepted (boundary_answer (grid_of d) (bounds_of d.conditions) d.responses.values faces) _ two.1 in
-        let four = both_accepted (correction_answer (correcting_of d)) _ three.1 in
-        let five = both_accepted (metrics_answer (metrics_of d.mesh.places (outflows_of d))) _ four.1 in
-        (both_accepted (finite_answer (outflows_of d)) accepted five.1).0
+        let measured = (both_accepted (correction_part d ready) _ on_from_correction).1 in
+        (both_accepted (metrics_answer (metrics_of d.mesh.places (outflows_of d))) _ measured).1
 
     finite_outflows : (c : ℕ) → c < length (outflows_of d) → T (finite (get_or (outflows_of d) c nan))
     finite_outflows c l =
         let e = none_below (endless (outflows_of d)) (length (outflows_of d)) c (nothing_spilled (lowest_where (endless (outflows_of d)) (length (outflows_of d))) finite_ok) l in
         subst T (sym (not-false (is_finite (get_or (outflows_of d) c nan)) e)) tt
 
-    kept : Promise (walls_of d) (fluxes_of d)
-    kept =
-        subst (λ (n : ℕ). Promise (sized n) (fluxes_of d)) (predicted_size d ready)
-        (carried (boundary_of (correcting_of d)) (λ (f : ℕ). get_or d.walls.values f nan) (fluxes_of d) (λ f l e. wall_kept d ready f (below d ready f l) e) (λ f l n. (correctable d ready).links f l n) (promised (correcting_of d) (correctable d ready) corrected_ok))
-      where
-        sized : ℕ → Boundary
-        sized n = record { faces = n; neighbour = (walls_of d).neighbour; peer = (walls_of d).peer; code = (walls_of d).code; given = (walls_of d).given; coefficient = (walls_of d).coefficient }
+    above : (f : ℕ) → f < faces → f < length (predicted_of d)
+    above f l = subst (λ (n : ℕ). f < n) (sym (predicted_size d ready)) l
+
+    promise : Promise (boundary_of (correcting_of d)) (fluxes_of d)
+    promise = promised (correcting_of d) (correctable d ready) corrected_ok
+
+    kept : KeepsFree (walls_of d) (fluxes_of d)
+    kept f l e = promise.free f (above f l) e ∙ wall_kept d ready f l e.0 e.1
+
+    paired : PredictsOpposite (walls_of d) (predicted_of d)
+    paired f g l b e = negated (links_of d) (unlinked_of d) f g links_ok (subst (λ (n : ℕ). g < n) (sym (unlinked_size d ready)) l) b e.0 e.1
+
+    predicted_opposite : (f g : ℕ) → f < faces → g < faces → Linked (walls_of d) f g → Opposite (get_or (predicted_of d) f nan) (get_or (predicted_of d) g nan)
+    predicted_opposite f g hf hg e = elim (leb_tells g f) [
+      | inr below ↦ inl (sym (neg-neg _) ∙ ap neg (sym (paired f g hg below.1 e)))
+      | inl n ↦
+          elim (eq-or-lt_of_le n.1) [
+            | inl same ↦
+                let link = ready.good.sound.links f hf (λ z. let w : suc g ≡ 0 = sym e.0 ∙ z in absurd (omega arith)) in
+                absurd (link.other (e.0 ∙ omega (arith, same)))
+            | inr b ↦ inl (paired g f hf b (e.1, e.0))
+          ]
+    ]
+
+    opposite : LeavesOpposite (walls_of d) (fluxes_of d)
+    opposite f g hf hg e k = promise.opposite f g (above f hf) (above g hg) e (predicted_opposite f g hf hg e) k
 
     balanced : Balanced (faces_of d.mesh.adjacency (fluxes_of d)) faces (outflows_of d)
     balanced = subst (λ (n : ℕ). Balanced (faces_of d.mesh.adjacency (fluxes_of d)) n (outflows_of d)) (fluxes_size d ready) (balances cells d.mesh.adjacency (fluxes_of d) (flows d ready) fit finite_outflows)
 
-    pub demanded : DemandThree d (fluxes_of d) (outflows_of d)
+    pub demanded : DemandThree d (predicted_of d) (fluxes_of d) (outflows_of d)
     demanded = record {
       fluxes = fluxes_size d ready;
       outflows = outflows_size d ready;
@@ -85,4 +109,6 @@ module _ (d : Inputs) (ready : Lendable d) where
       balanced = balanced;
       quotable = quoted cells d.mesh.adjacency (fluxes_of d) (outflows_of d) faces (flows d ready) ready.good.sound.few (fluxes_size d ready) (outflows_size d ready) balanced;
       kept = kept;
+      paired = paired;
+      opposite = opposite;
     }

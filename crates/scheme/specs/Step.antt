@@ -1,4 +1,4 @@
--- The whole step, from the parts' definitions: stencil, predicted flux, coefficients with boundary, correction, outflow, metrics. Definitions only.
+-- The whole step, from the parts' definitions: stencil, predicted flux, coefficients with boundary, that flux at linked faces, correction, outflow, metrics. Definitions only.
 use Rattle.refusal.specs.declared.Reason.TheVariants.{BadCoefficient}
 use Rattle.std.specs.Prelude.{◌≡◌, List, [], ◌∷◌, Bool, not, ℕ, ◌*◌, ◌≤◌, length, get_or, Float, Option, None, Some}
 use Rattle.std.specs.Float.{nan}
@@ -13,6 +13,7 @@ use Rattle.numerics.specs.Gradient.{gradients}
 use Rattle.numerics.specs.Outflow.{outflows}
 use Rattle.stencil.specs.Stencil.{stencil_answer, stencil_slices}
 use Rattle.predictor.specs.Boundary.{boundary_answer, boundary_coefficients}
+use Rattle.linked.specs.Linked.{Links, links, linked_answer, linked_fluxes}
 use Rattle.corrector.specs.Correction.{Correcting, correcting, correction_answer, corrected_fluxes}
 use Rattle.coupling.specs.Grid.{Grid, grid, Field}
 use Rattle.corrector.specs.Metrics.{metrics_of, metrics_answer}
@@ -47,11 +48,19 @@ gradient_of d = gradients (stencil_of d) d.records d.pressure.values d.mesh.coun
 abbrev pub flow_of : Inputs → Flow
 flow_of d = flow d.velocity.values d.pressure.values (gradient_of d) d.responses.values
 
-abbrev pub predicted_of : Inputs → List Float
-predicted_of d = predicted_fluxes (grid_of d) (flow_of d) d.walls.values
+-- with the wall flux at every face with one cell
+abbrev pub unlinked_of : Inputs → List Float
+unlinked_of d = predicted_fluxes (grid_of d) (flow_of d) d.walls.values
 
 abbrev pub coefficients_of : Inputs → List Float
 coefficients_of d = boundary_coefficients (grid_of d) (bounds_of d.conditions) d.responses.values d.mesh.counts.faces
+
+abbrev pub links_of : Inputs → Links
+links_of d = links (grid_of d) (bounds_of d.conditions) (flow_of d) (coefficients_of d)
+
+-- and linked faces predicted
+abbrev pub predicted_of : Inputs → List Float
+predicted_of d = linked_fluxes (links_of d) (unlinked_of d)
 
 abbrev pub correcting_of : Inputs → Correcting
 correcting_of d =
@@ -83,6 +92,7 @@ work_answer d =
     (stencil_answer (lent_of d.mesh d.conditions) d.records
     ∷ prediction_answer (grid_of d) (flow_of d) d.walls.values
     ∷ boundary_answer (grid_of d) (bounds_of d.conditions) d.responses.values d.mesh.counts.faces
+    ∷ linked_answer (links_of d) (unlinked_of d)
     ∷ correction_answer (correcting_of d)
     ∷ metrics_answer (metrics_of d.mesh.places (outflows_of d))
     ∷ finite_answer (outflows_of d)

@@ -29,6 +29,6 @@ cleared_alike n records a b f g =
 
 -- what an accepted step hands out meets demand 3
 pub delivered : (d : Inputs) → Lendable d → (new : Handed) → ((f : ℕ) → T (fits binary64 (get_or new.flux f nan))) → new ≡ results d → work_answer d ≡ accepted
-    → DemandThree d new.flux new.outflow
+    → DemandThree d new.predicted new.flux new.outflow
 delivered d ready new fit e ok =
-    subst (λ (h : Handed). ((f : ℕ) → T (fits binary64 (get_or h.flux f nan))) → DemandThree d h.flux h.outflow) (sym e) (λ w. demanded d ready (λ f _. w f) ok) fit
+    subst (λ (h : Handed). ((f : ℕ) → T (fits binary64 (get_or h.flux f nan))) → DemandThree d h.predicted h.flux h.outflow) (sym e) (λ w. demanded d ready (λ f _. w f) ok) fit

@@ -1,5 +1,5 @@
-// The coupling step: stencil, predicted flux, coefficients, correction, outflow and metrics in one
-// call. Mesh, conditions, fields and outputs are lent apart, and checked together by the one function that takes them.
+// The coupling step: stencil, predicted flux, coefficients, the flux of linked faces, correction, outflow and metrics
+// in one call. Mesh, conditions, fields and outputs are lent apart, and checked together by the one function that takes them.
 #![tactic(auto)]
 
 ghost use Rattle.std.specs.Prelude.{◌≡◌};
@@ -51,7 +51,7 @@ pub fn step(
     ensures call { let d = inputs_of mesh.now conditions.now out.old.records fields.now in
         StepCall d (outputs_of out.old) result (outputs_of out.new) }
     ensures demanded { let d = inputs_of mesh.now conditions.now out.old.records fields.now in
-        Demanded result d out.new.flux.now out.new.outflow.now }
+        Demanded result d out.new.predicted.now out.new.flux.now out.new.outflow.now }
     ensures same { Same out.old out.new }
 {
     check_step(mesh, conditions, fields, out)?;

@@ -8,22 +8,24 @@ ghost use Rattle.stencil.specs.Lent.{lent_of};
 ghost use Rattle.stencil.specs.Stencil.{SlicesSized, stencil_answer};
 ghost use Rattle.predictor.specs.Boundary.{Begun, boundary_answer};
 ghost use Rattle.predictor.specs.Prediction.{prediction_answer};
+ghost use Rattle.linked.specs.Linked.{linked_answer};
 ghost use Rattle.corrector.specs.Correction.{correction_answer};
 ghost use Rattle.corrector.specs.Metrics.{metrics_of, metrics_answer, metrics_numbers};
-ghost use Rattle.scheme.specs.Step.{finite_answer, work_answer, Lendable, grid_of, flow_of, stencil_of, gradient_of, predicted_of, coefficients_of, correcting_of, fluxes_of, outflows_of};
+ghost use Rattle.scheme.specs.Step.{finite_answer, work_answer, Lendable, grid_of, flow_of, stencil_of, gradient_of, unlinked_of, coefficients_of, links_of, predicted_of, correcting_of, fluxes_of, outflows_of};
 ghost use Rattle.step.specs.Bundles.{inputs_of};
 ghost use Rattle.scheme.specs.Demand.{Demanded};
 ghost use Rattle.step.specs.Call.{IfAccepted, Binary64, cleared, results, OutputsFit};
 
 use crate::{Fields, Outputs};
 use corrector::inner::correction::Correction;
+use linked::inner::prediction::Links;
 use mesh::{Answer, Conditions, Mesh};
 use numerics::Stencil;
 use numerics::inner::gradient::Slope;
 use numerics::inner::outflow::Flux;
 use predictor::inner::boundary::Boundary;
 use predictor::inner::coefficients::Coupling;
-use predictor::inner::prediction::Momentum;
+use predictor::inner::prediction::{Flow, Momentum};
 use refusal::Reason;
 use stencil::StencilMut;
 use stencil::inner::build::Domain;
@@ -104,7 +106,7 @@ impl<'a> Work<'a> {
         ensures answer { let d = inputs_in self.now in
             result ≡ prediction_answer (grid_of d) (flow_of d) d.walls.values }
         ensures contents { let d = inputs_in self.now in
-            IfAccepted result ((gradient.new ≡ gradient_of d) × (predicted.new ≡ predicted_of d)) }
+            IfAccepted result ((gradient.new ≡ gradient_of d) × (predicted.new ≡ unlinked_of d)) }
         ensures begun { let d = inputs_in self.now in
             IfAccepted result (Begun (grid_of d) d.responses.values coefficients.new) }
     {
@@ -121,32 +123,64 @@ impl<'a> Work<'a> {
         momentum.rhie_chow_predicted_flux(coefficients, gradient, predicted)
     }
 
-    // The coefficients of all faces, of which those with two cells stand there already, and the flux that is
-    // corrected with them.
-    #[tactic(auto, using(mesh::proofs::Facts::refuses, passes::proofs::Stages::never_accepted), unfolding(mesh::specs::Answers::or_else))]
-    fn correct(&self, predicted: &[f64], coefficients: &mut [f64], flux: &mut [f64]) -> Answer
-        requires predicted { let d = inputs_in self.now in
-            predicted.now ≡ predicted_of d }
+    // The coefficients of all faces, of which those with two cells stand there already.
+    fn complete(&self, coefficients: &mut [f64]) -> Answer
         requires begun { let d = inputs_in self.now in
             Begun (grid_of d) d.responses.values coefficients.old }
-        requires long { let n = self.now.mesh.counts in
-            (length coefficients.old ≡ n.faces) × (length flux.old ≡ n.faces) }
+        requires long { length coefficients.old ≡ self.now.mesh.counts.faces }
         ensures answer { let d = inputs_in self.now in
-            let c = boundary_answer (grid_of d) (bounds_of d.conditions) d.responses.values d.mesh.counts.faces in
-            result ≡ or_else c (correction_answer (correcting_of d)) }
-        ensures contents { let d = inputs_in self.now in
-            IfAccepted result ((coefficients.new ≡ coefficients_of d) × (flux.new ≡ fluxes_of d)) }
+            result ≡ boundary_answer (grid_of d) (bounds_of d.conditions) d.responses.values d.mesh.counts.faces }
+        ensures contents { IfAccepted result (coefficients.new ≡ coefficients_of (inputs_in self.now)) }
     {
-        let bounds = self.conditions.bounds();
         let boundary = Boundary {
             coupling: self.coupling(),
-            bounds,
+            bounds: self.conditions.bounds(),
         };
-        boundary.complete(coefficients)?;
+        boundary.complete(coefficients)
+    }
+
+    // The flux that is predicted at linked faces with these coefficients, where the wall flux stands.
+    fn link<'o>(
+        &self,
+        gradient: &'o [f64],
+        coefficients: &'o [f64],
+        predicted: &mut [f64],
+    ) -> Answer
+        requires gradient { gradient.now ≡ gradient_of (inputs_in self.now) }
+        requires coefficients { coefficients.now ≡ coefficients_of (inputs_in self.now) }
+        requires unlinked { predicted.old ≡ unlinked_of (inputs_in self.now) }
+        requires long { length gradient.now ≡ 3 * self.now.mesh.counts.cells }
+        ensures answer { let d = inputs_in self.now in
+            result ≡ linked_answer (links_of d) (unlinked_of d) }
+        ensures contents { IfAccepted result (predicted.new ≡ predicted_of (inputs_in self.now)) }
+    {
+        let flow = Flow {
+            coupling: self.coupling(),
+            velocity: self.fields.velocity.values,
+            pressure: self.fields.pressure.values,
+            gradient,
+            walls: self.fields.walls.values,
+        };
+        let links = Links {
+            flow,
+            bounds: self.conditions.bounds(),
+            coefficients,
+        };
+        links.predict(predicted)
+    }
+
+    // The flux that is corrected with these coefficients.
+    fn correct(&self, predicted: &[f64], coefficients: &[f64], flux: &mut [f64]) -> Answer
+        requires predicted { predicted.now ≡ predicted_of (inputs_in self.now) }
+        requires coefficients { coefficients.now ≡ coefficients_of (inputs_in self.now) }
+        requires long { length flux.old ≡ self.now.mesh.counts.faces }
+        ensures answer { result ≡ correction_answer (correcting_of (inputs_in self.now)) }
+        ensures contents { IfAccepted result (flux.new ≡ fluxes_of (inputs_in self.now)) }
+    {
         let correction = Correction {
             faces: self.mesh.grid().faces(),
-            bounds,
-            coefficients: &*coefficients,
+            bounds: self.conditions.bounds(),
+            coefficients,
             values: self.fields.correction.values,
         };
         correction.correct_face_flux(predicted, flux)
@@ -201,6 +235,8 @@ impl<'a> Work<'a> {
         self.build(&mut slices)?;
         let stencil = slices.stencil(self.mesh.counts.mesh);
         self.predict(&stencil, coefficients, gradient, predicted)?;
+        self.complete(coefficients)?;
+        self.link(gradient, coefficients, predicted)?;
         self.correct(predicted, coefficients, flux)?;
         self.measure(flux, outflow, metrics)
     }
@@ -212,7 +248,7 @@ impl<'a> Work<'a> {
         ensures contents { let d = inputs_in self.now in
             outputs_of out.new ≡ if_refused result (cleared (outputs_of out.old)) (results d) }
         ensures demanded { let d = inputs_in self.now in
-            Demanded result d out.new.flux.now out.new.outflow.now }
+            Demanded result d out.new.predicted.now out.new.flux.now out.new.outflow.now }
         ensures same { Same out.old out.new }
     {
         if let Err(refusal) = self.run(out) {

@@ -28,11 +28,11 @@ pub struct Momentum<'s, 'a> {
 
 // The same with a gradient of the pressure in place of the stencil.
 #[derive(Clone, Copy)]
-pub struct Flow<'s, 'a> {
+pub struct Flow<'s, 'g, 'a> {
     pub coupling: Coupling<'a>,
     pub velocity: &'a [f64],
     pub pressure: &'s [f64],
-    pub gradient: &'a [f64],
+    pub gradient: &'g [f64],
     pub walls: &'a [f64],
     pub ghost sized: { (length velocity.now ≡ 3 * length pressure.now)
         × (length gradient.now ≡ 3 * length pressure.now)
@@ -42,11 +42,11 @@ pub struct Flow<'s, 'a> {
 
 // A method asks that its cell or face is there, or that its output is as long as the faces are, as those of a
 // `Boundary` do: of a number and of a slice that are no part of the struct.
-impl<'s, 'a> Flow<'s, 'a> {
+impl<'s, 'g, 'a> Flow<'s, 'g, 'a> {
     ghost use Rattle.predictor.specs.Bundles.{flow_of_lent};
 
     // What the cell c brings to a flux.
-    fn side_at(&self, c: usize) -> Side
+    pub fn side_at(&self, c: usize) -> Side
         requires { c < length self.now.pressure.now }
         ensures answer { result ≡ side_at (flow_of_lent self.now) c }
     {

@@ -1,13 +1,17 @@
-use mathlib.Core.Path.{sym, ap, ◌∙◌}
+use mathlib.Core.Path.{ap, ◌∙◌}
 use mathlib.Core.List.{List}
 use lib.Ieee.{Float}
 use lib.ListN.{length}
-use Rattle.mesh.specs.Answers.{or_else}
 use Rattle.passes.proofs.Stages.{handed_out_lem}
 use Rattle.corrector.specs.Correction.{correction_answer, corrected_fluxes}
-use Rattle.scheme.proofs.Parts.{predicted_size, correcting_is}
+use Rattle.scheme.proofs.Parts.{predicted_size, correctable_by, correcting_is}
 use Rattle.step.specs.Work.{inputs_in}
 use Rattle.step.proofs.work.Work.correct.Goals as goal
+
+pub invariant_of-correction : goal.invariant_of-correction
+invariant_of-correction c =
+    let w = c.args.self.now in
+    record { correctable = rw (c.faces.ensures, c.grid.ensures, c.bounds.ensures) (correctable_by (inputs_in w) w.lendable _ c.requires.coefficients) }
 
 pub correct_face_flux-requires-clause-predicted_len : goal.correct_face_flux-requires-clause-predicted_len
 correct_face_flux-requires-clause-predicted_len c =
@@ -16,21 +20,14 @@ correct_face_flux-requires-clause-predicted_len c =
     rw (c.faces.ensures, c.grid.ensures) (ap (λ (l : List Float). length l) c.requires.predicted ∙ predicted_size d w.lendable)
 
 pub returns-clause-answer : goal.returns-clause-answer
-unfolding or_else
 returns-clause-answer c =
     let w = c.args.self.now in
-    let d = inputs_in w in
-    let passes = rw (c.bounds-bounds.ensures, c.coupling.ensures.grid, c.coupling.ensures.responses) at c.complete.ensures.passes in
-    let answer = rw (c.faces.ensures, c.grid.ensures, c.bounds-bounds.ensures) at c.correct_face_flux.ensures.answer in
-    let is = correcting_is d w.lendable _ _ c.requires.predicted (passes.1 c.in_ok-complete.was) in
-    rw (sym passes.0 ∙ c.in_ok-complete.was) (answer ∙ ap correction_answer is)
+    let answer = rw (c.faces.ensures, c.grid.ensures, c.bounds.ensures) at c.correct_face_flux.ensures.answer in
+    answer ∙ ap correction_answer (correcting_is (inputs_in w) w.lendable _ _ c.requires.predicted c.requires.coefficients)
 
 pub returns-clause-contents : goal.returns-clause-contents
 returns-clause-contents c =
     let w = c.args.self.now in
-    let d = inputs_in w in
-    let passes = rw (c.bounds-bounds.ensures, c.coupling.ensures.grid, c.coupling.ensures.responses) at c.complete.ensures.passes in
-    let contents = rw (c.faces.ensures, c.grid.ensures, c.bounds-bounds.ensures) at c.correct_face_flux.ensures.contents in
-    let coefficients = passes.1 c.in_ok-complete.was in
-    let is = correcting_is d w.lendable _ _ c.requires.predicted coefficients in
-    λ ok. (coefficients, contents ∙ handed_out_lem _ _ _ ok ∙ ap corrected_fluxes is)
+    let contents = rw (c.faces.ensures, c.grid.ensures, c.bounds.ensures) at c.correct_face_flux.ensures.contents in
+    let is = correcting_is (inputs_in w) w.lendable _ _ c.requires.predicted c.requires.coefficients in
+    λ ok. contents ∙ handed_out_lem _ _ _ ok ∙ ap corrected_fluxes is

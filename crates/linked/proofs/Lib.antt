@@ -1,0 +1,2 @@
+-- How a linked pair leaves prediction.
+pub mod Pairs

@@ -1,0 +1,73 @@
+-- How an accepted prediction of links leaves the faces of a pair, and all others. Assumes nothing.
+use Rattle.std.specs.Prelude.{Ok, Err}
+use mathlib.Core.Path.{◌≡◌, sym, ap, subst, ◌∙◌}
+use mathlib.Core.Logic.{⊎_elim}
+use mathlib.Core.List.{List}
+use Prim.Native.Nat.{ℕ, suc, ◌+◌, ◌-◌, ◌<◌}
+use native.Mathlib.Nat.{eq-or-lt_of_le}
+use native.Mathlib.Omega.{arith}
+use lib.Dec.{eqb-suc-zero}
+use lib.ListN.{length, get_or, set}
+use lib.Seq.{get_or-set_same, get_or-set_other}
+use lib.Ieee.{Float, nan, neg}
+use borrow.Author.Tests.{lt-ltb, le-ltb}
+use Rattle.mesh.specs.Answers.{Outcome, accepted}
+use Rattle.mesh.specs.Pass.{value_of}
+use Rattle.mesh.specs.Records.{peer_at}
+use Rattle.mesh.proofs.Values.{length-list_of, get_or-list_of, value_at}
+use Rattle.linked.specs.Linked.{Links, own_flux, if_own, linked_at, linked_answer, linked_fluxes}
+
+less : (n : ℕ) → suc n - 1 ≡ n
+less n = omega arith
+
+value_of_own : (s : Outcome) (v w : Float) → if_own s v ≡ Ok w → w ≡ v
+unfolding if_own
+value_of_own (Ok own) v w e = cc
+value_of_own (Err k) v w e = cc
+
+module _ (d : Links) (p : List Float) where
+  pub size : length (linked_fluxes d p) ≡ length p
+  size = length-list_of (λ (i : ℕ). value_of (linked_at d p i)) (length p)
+
+  -- a face without a link
+  pub unlinked : (f : ℕ) → f < length p → peer_at d.bounds.codes f ≡ 0 → get_or (linked_fluxes d p) f nan ≡ get_or p f nan
+  unfolding linked_at value_of
+  unlinked f l e = get_or-list_of (λ (i : ℕ). value_of (linked_at d p i)) (length p) f l ∙ rw e
+
+  -- the lower face of a pair, and the higher
+  pub lower_at : (f g : ℕ) → peer_at d.bounds.codes f ≡ suc g → f < g → linked_at d p f ≡ if_own (own_flux d f) (value_of (own_flux d f))
+  unfolding linked_at
+  lower_at f g e l = rw (e, eqb-suc-zero g, less g, le-ltb g f (omega (arith, l)))
+
+  pub higher_at : (f g : ℕ) → peer_at d.bounds.codes g ≡ suc f → f < g → linked_at d p g ≡ if_own (own_flux d g) (neg (value_of (own_flux d f)))
+  unfolding linked_at
+  higher_at f g e l = rw (e, eqb-suc-zero f, less f, lt-ltb f g l)
+
+  -- the higher has the lower's flux negated
+  pub negated : (f g : ℕ) → linked_answer d p ≡ accepted → g < length p → f < g → peer_at d.bounds.codes f ≡ suc g → peer_at d.bounds.codes g ≡ suc f
+      → get_or (linked_fluxes d p) g nan ≡ neg (get_or (linked_fluxes d p) f nan)
+  negated f g ok l b there back =
+      let low = value_at (linked_at d p) (length p) f ok (omega (arith, l, b)) in
+      let high = value_at (linked_at d p) (length p) g ok l in
+      let own = low.2 ∙ value_of_own _ _ _ (sym (lower_at f g there b) ∙ low.1) in
+      let other = high.2 ∙ value_of_own _ _ _ (sym (higher_at f g back b) ∙ high.1) in
+      other ∙ ap neg (sym own)
+
+  -- what the lower has is its own
+  pub lower_has : (f g : ℕ) (v : Float) → peer_at d.bounds.codes f ≡ suc g → f < g → linked_at d p f ≡ Ok v → v ≡ value_of (own_flux d f)
+  lower_has f g v e l ok = value_of_own _ _ _ (sym (lower_at f g e l) ∙ ok)
+
+-- ---- the pass
+
+-- one more item written in its place
+pub one_more : (g : ℕ → Outcome) (l : List Float) (i : ℕ) (v : Float) → i < length l → g i ≡ Ok v → ((k : ℕ) → k < i → g k ≡ Ok (get_or l k nan))
+    → (k : ℕ) → k < i + 1 → g k ≡ Ok (get_or (set l i v) k nan)
+one_more g l i v room e done k b =
+    ⊎_elim (λ (same : k ≡ i). subst (λ (j : ℕ). g j ≡ Ok (get_or (set l i v) j nan)) (sym same) (e ∙ ap Ok (sym (get_or-set_same l i v nan room))))
+    (λ (less : k < i). done k less ∙ ap Ok (sym (get_or-set_other l i k v nan (λ (z : k ≡ i). omega (arith, less, z)))))
+    (eq-or-lt_of_le (omega (arith, b)))
+
+-- a face reads nothing but its own flux of those that stand there
+pub reads_one : (d : Links) (p q : List Float) (f : ℕ) → get_or p f nan ≡ get_or q f nan → linked_at d p f ≡ linked_at d q f
+unfolding linked_at
+reads_one d p q f e = rw e

@@ -1,0 +1,4 @@
+// The flux that is predicted at linked faces.
+#![tactic(auto)]
+
+pub mod inner;

@@ -8,7 +8,9 @@ use crate::lent::{Lent, Slices, FACE_WIDTH, OWN};
 use crate::makers::{self, Walls};
 use crate::port::{Answer, Call, Port};
 use crate::random::Random;
-use flursys::simple::access::{continuity_metrics, pressure_coupling_gradient};
+use flursys::simple::access::{
+    continuity_metrics, pressure_coupling_gradient, rhie_chow_flux_with_coefficients,
+};
 use flursys::LeastSquaresGradientStencil;
 use std::hint::black_box;
 use std::time::{Duration, Instant};
@@ -139,7 +141,8 @@ fn accepted(entry: Entry, answer: Answer) {
 fn growth(port: &Port) {
     println!(
         "\nthe step, ns per face, and bytes of all slices that are lent for it, inputs and outputs, per face; \
-         the port\nallocates nothing\n{:22} {:>7} {:>7} {:>8} {:>8} {:>8} {:>7}",
+         the port\nallocates nothing; linked are the left side and the right\n\
+         {:22} {:>7} {:>7} {:>8} {:>8} {:>8} {:>7}",
         "", "cells", "faces", "Rust", "port", "ratio", "bytes"
     );
     let squares = [[8, 8], [16, 16], [32, 32], [64, 64], [127, 129]].map(|[columns, rows]| {
@@ -148,9 +151,15 @@ fn growth(port: &Port) {
             makers::quads(columns, rows),
         )
     });
+    let linked = [[1, 8192], [127, 129]].map(|[columns, rows]| {
+        (
+            format!("{columns}x{rows} quads, linked"),
+            makers::linked_quads(columns, rows),
+        )
+    });
     let cubes = [[3, 3, 3], [5, 5, 5], [8, 8, 8], [13, 13, 13], [20, 21, 26]]
         .map(|[x, y, z]| (format!("{x}x{y}x{z} hexes"), makers::hexes(x, y, z)));
-    for (name, made) in squares.into_iter().chain(cubes) {
+    for (name, made) in squares.into_iter().chain(linked).chain(cubes) {
         let lent = ordinary(&made);
         let times = entry_times(port, Entry::Step, &lent);
         let inputs = Entry::Step.inputs().iter();
@@ -290,15 +299,26 @@ fn rust_call(entry: Entry, lent: &Lent) -> Box<dyn FnMut()> {
         }
         Entry::IntegratedDivergence => repeat!(flursys::integrated_divergence(&mesh, &flux)),
         Entry::ContinuityMetrics => repeat!(continuity_metrics(&mesh, &flux)),
+        // The least sequence of the Rust's functions that gives what an accepted step hands out: one prediction, of
+        // faces with two cells and of linked ones, with coefficients of all faces. Only the order of refusals needs the
+        // prediction without links before it, and a caller of the Rust would not make the same fluxes twice.
         Entry::Step => Box::new(move || {
             let stencil = LeastSquaresGradientStencil::new(&mesh, &conditions).expect("accepted");
-            let predicted = flursys::rhie_chow_predicted_flux(
-                &mesh, &velocity, &pressure, &responses, &stencil, &walls,
-            )
-            .expect("accepted");
             let coefficients =
                 flursys::pressure_face_coefficients_with_boundary(&mesh, &responses, &conditions)
                     .expect("accepted");
+            let predicted = rhie_chow_flux_with_coefficients(
+                &mesh,
+                &velocity,
+                &pressure,
+                &responses,
+                &stencil,
+                &walls,
+                &coefficients,
+                None,
+                Some(&conditions),
+            )
+            .expect("accepted");
             let flux = flursys::correct_face_flux_with_boundary(
                 &mesh,
                 &predicted,

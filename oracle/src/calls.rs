@@ -2,11 +2,13 @@
 
 mod counting;
 
-pub use counting::{counts_agree, equation_counts};
+pub use counting::{counts_agree, equation_counts, equations_at_most};
 
 use crate::entry::{Entry, Part};
 use crate::lent::{distances, export_stencil, three, Lent, SliceMut, Slices, FACE_WIDTH, OWN};
-use flursys::simple::access::{continuity_metrics, pressure_coupling_gradient};
+use flursys::simple::access::{
+    continuity_metrics, pressure_coupling_gradient, rhie_chow_flux_with_coefficients,
+};
 use flursys::{
     correct_cell_velocity_from_gradient, correct_face_flux_with_boundary, fields,
     gauss_gradient_from_faces, integrated_divergence, least_squares_gradient, mesh,
@@ -67,16 +69,16 @@ fn clear(slice: SliceMut<'_>) {
 }
 
 /// Whether this number of an output is copied from an input without arithmetic, so that its bits are
-/// kept, a NaN's payload too.
+/// kept, a NaN's payload too. The step predicts at linked faces, the prediction by itself does not.
 pub fn is_copied(entry: Entry, part: Part, at: usize, lent: &Lent) -> bool {
     let one_cell = |face: usize| lent.slices.adjacency[2 * face + 1] == 0;
-    let kept = |face: usize| {
-        one_cell(face) && lent.slices.codes[2 * face] == 2 && lent.slices.codes[2 * face + 1] == 0
-    };
+    let unlinked = |face: usize| one_cell(face) && lent.slices.codes[2 * face + 1] == 0;
+    let kept = |face: usize| unlinked(face) && lent.slices.codes[2 * face] == 2;
     match (entry, part) {
         (_, Part::Weights) => at % 4 == 3,
         (Entry::CorrectFaceFluxInPlace, Part::Predicted) => kept(at),
         (Entry::FaceDistances, Part::Geometry) => at % FACE_WIDTH < OWN,
+        (Entry::Step, Part::Predicted) => unlinked(at),
         (_, Part::Predicted) => one_cell(at),
         (Entry::CorrectFaceFluxWithBoundary | Entry::Step, Part::Flux) => kept(at),
         _ => false,
@@ -107,6 +109,10 @@ pub fn run(entry: Entry, lent: &Lent) -> Outcome {
         Entry::PressureCouplingGradient => coupling_gradient(lent, Some(&lent.conditions())),
         Entry::PressureCouplingGradientWithoutConditions => coupling_gradient(lent, None),
     };
+    outcome(result)
+}
+
+fn outcome(result: Result<Slices, Refused>) -> Outcome {
     match result {
         Ok(outputs) => Outcome::Accepted(Box::new(outputs)),
         Err((number, index)) => Outcome::Refused(Refusal {
@@ -282,27 +288,35 @@ fn metrics(lent: &Lent) -> Result<Slices, Refused> {
     Ok(outputs)
 }
 
-/// The whole step of document 01: stencil, predicted flux, coefficients with boundary, correction,
-/// outflow and metrics.
+/// The whole step of documents 01 and 02: stencil, predicted flux, coefficients with boundary, predicted flux of linked
+/// faces with these, correction, outflow and metrics. The last prediction is of all faces, and refuses at linked ones
+/// only: at faces with two cells it does again what the first has done, with the same coefficients.
 fn step(lent: &Lent) -> Result<Slices, Refused> {
     let mesh = lent.mesh();
     let conditions = lent.conditions();
+    let velocity = lent.cell_vectors(Part::Velocity);
     let pressure = lent.cell_numbers(Part::Pressure);
     let responses = lent.cell_numbers(Part::Responses);
+    let walls = lent.face_numbers(Part::Walls);
     let mut outputs = Slices::default();
     let stencil = build_stencil(&mesh, &conditions, lent.records, &mut outputs)?;
-    let predicted = rhie_chow_predicted_flux(
-        &mesh,
-        &lent.cell_vectors(Part::Velocity),
-        &pressure,
-        &responses,
-        &stencil,
-        &lent.face_numbers(Part::Walls),
-    )
-    .map_err(of_simple)?;
+    rhie_chow_predicted_flux(&mesh, &velocity, &pressure, &responses, &stencil, &walls)
+        .map_err(of_simple)?;
     let gradient = least_squares_gradient(&mesh, &stencil, &pressure).map_err(of_numerics)?;
     let coefficients = pressure_face_coefficients_with_boundary(&mesh, &responses, &conditions)
         .map_err(of_simple)?;
+    let predicted = rhie_chow_flux_with_coefficients(
+        &mesh,
+        &velocity,
+        &pressure,
+        &responses,
+        &stencil,
+        &walls,
+        &coefficients,
+        None,
+        Some(&conditions),
+    )
+    .map_err(of_simple)?;
     let correction = lent.cell_numbers(Part::Correction);
     let flux =
         correct_face_flux_with_boundary(&mesh, &predicted, &coefficients, &correction, &conditions)
@@ -316,6 +330,26 @@ fn step(lent: &Lent) -> Result<Slices, Refused> {
     outputs.coefficients = coefficients.values().to_vec();
     outputs.flux = flux.values().to_vec();
     Ok(outputs)
+}
+
+/// The predicted flux with links, on what is lent as stencil and coefficients: a part of the step, and no entry.
+pub fn linked_flux(lent: &Lent) -> Outcome {
+    let predicted = rhie_chow_flux_with_coefficients(
+        &lent.mesh(),
+        &lent.cell_vectors(Part::Velocity),
+        &lent.cell_numbers(Part::Pressure),
+        &lent.cell_numbers(Part::Responses),
+        &lent.stencil(),
+        &lent.face_numbers(Part::Walls),
+        &lent.face_numbers(Part::Coefficients),
+        None,
+        Some(&lent.conditions()),
+    );
+    let predicted = predicted.map_err(of_simple).map(|predicted| Slices {
+        predicted: predicted.values().to_vec(),
+        ..Slices::default()
+    });
+    outcome(predicted)
 }
 
 /// `integrated_divergence`, and `continuity_metrics` with the largest divergence, which sums the same

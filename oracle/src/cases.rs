@@ -3,7 +3,7 @@
 use crate::calls::{self, Outcome};
 use crate::checks::LIMIT;
 use crate::entry::{Entry, Part};
-use crate::lent::{export_stencil, Lent, Slices, FACE_WIDTH, OWN};
+use crate::lent::{export_stencil, Lent, FACE_WIDTH, OWN};
 use crate::makers::{self, Made, Style, Walls, WALLS};
 use crate::random::Random;
 use flursys::LeastSquaresGradientStencil;
@@ -198,26 +198,52 @@ impl Case {
     }
 }
 
-/// The step's outcome put together from the outcomes of its parts.
-pub fn step_by_parts(lent: &Lent) -> Outcome {
+/// The parts of a step before the prediction with links, which is no entry, and those after it.
+const BEFORE_LINKS: [Entry; 3] = [
+    Entry::LeastSquaresStencil,
+    Entry::RhieChowPredictedFlux,
+    Entry::PressureFaceCoefficientsWithBoundary,
+];
+const AFTER_LINKS: [Entry; 2] = [Entry::CorrectFaceFluxWithBoundary, Entry::ContinuityMetrics];
+
+/// What is lent with what these hand out, one after another, or how one of them refuses.
+pub fn handed_on(lent: &Lent, entries: &[Entry]) -> Result<Lent, Outcome> {
     let mut lent = lent.clone();
-    let mut outputs = Slices::default();
-    for entry in [
-        Entry::LeastSquaresStencil,
-        Entry::RhieChowPredictedFlux,
-        Entry::PressureFaceCoefficientsWithBoundary,
-        Entry::CorrectFaceFluxWithBoundary,
-        Entry::ContinuityMetrics,
-    ] {
+    for &entry in entries {
         match calls::run(entry, &lent) {
             Outcome::Accepted(found) => {
                 for &part in entry.outputs() {
                     lent.slices.take(part, &found);
-                    outputs.take(part, &found);
                 }
             }
-            refused => return refused,
+            refused => return Err(refused),
         }
     }
-    Outcome::Accepted(Box::new(outputs))
+    Ok(lent)
+}
+
+/// What is lent with what the step has before the prediction with links.
+pub fn begun(lent: &Lent) -> Result<Lent, Outcome> {
+    handed_on(lent, &BEFORE_LINKS)
+}
+
+/// The rest of a step, whose predicted fluxes stand where they are lent.
+pub fn finished(lent: &Lent) -> Outcome {
+    match handed_on(lent, &AFTER_LINKS) {
+        Ok(lent) => Outcome::Accepted(Box::new(lent.slices)),
+        Err(refused) => refused,
+    }
+}
+
+/// The step's outcome put together from the outcomes of its parts.
+pub fn step_by_parts(lent: &Lent) -> Outcome {
+    let mut lent = match begun(lent) {
+        Ok(lent) => lent,
+        Err(refused) => return refused,
+    };
+    match calls::linked_flux(&lent) {
+        Outcome::Accepted(found) => lent.slices.take(Part::Predicted, &found),
+        refused => return refused,
+    }
+    finished(&lent)
 }

@@ -4,6 +4,7 @@
 mod crowds;
 mod distances;
 mod gradients;
+mod linked;
 
 use crate::calls::{self, is_copied, Outcome, Refusal};
 use crate::cases::{self, Case, Settings, Visit};
@@ -18,6 +19,7 @@ use crate::random::Random;
 use crowds::Crowds;
 use distances::Distances;
 use gradients::Gradients;
+use linked::Links;
 use std::fmt::Write;
 
 /// What every output holds before a call.
@@ -48,6 +50,7 @@ struct Tally {
     crowds: Crowds,
     distances: Distances,
     gradients: Gradients,
+    links: Links,
     smallest: Option<Difference>,
     claims: Claims,
 }
@@ -81,6 +84,7 @@ impl Tally {
         self.crowds.count(entry, lent, expected);
         self.distances.count(entry, lent, expected);
         self.gradients.count(entry, lent, outputs, expected);
+        self.links.count(entry, lent, expected);
         self.beyond += u64::from(!built && kind != 1);
     }
 }
@@ -91,6 +95,7 @@ struct Claims {
     met: u64,
     kept_faces: u64,
     opposite_pairs: u64,
+    predicted_pairs: u64,
     failed: Vec<String>,
 }
 
@@ -101,6 +106,7 @@ impl Claims {
                 self.met += 1;
                 self.kept_faces += claimed.kept;
                 self.opposite_pairs += claimed.opposite;
+                self.predicted_pairs += claimed.predicted;
             }
             Some(Err(failure)) => {
                 let failure = format!("{failure}: {} on {name}", entry.name());
@@ -110,13 +116,19 @@ impl Claims {
         }
     }
 
-    fn print(&self, whose: &str) {
+    fn print(&self, whose: &str, entry: Entry) {
+        let opposite = self.opposite_pairs;
+        let pairs = match entry {
+            Entry::Step => format!(
+                "{} linked pairs leave prediction exactly opposite, {opposite} with equal coefficients the correction",
+                self.predicted_pairs
+            ),
+            _ => format!("{opposite} linked pairs stay opposite"),
+        };
         println!(
-            "{whose}: {} accepted calls meet demand 3 in exact arithmetic ({} faces keep their flux, \
-             {} linked pairs stay opposite), {} fail",
+            "{whose}: {} accepted calls meet demand 3 in exact arithmetic ({} faces keep their flux, {pairs}), {} fail",
             self.met,
             self.kept_faces,
-            self.opposite_pairs,
             self.failed.len()
         );
         print_failures(&self.failed);
@@ -261,7 +273,7 @@ fn print_alone(alone: &Alone) {
     );
     print_failures(&alone.failed);
     for (entry, claims) in exact::CLAIMED_OF_RUST.iter().zip(&alone.claims) {
-        claims.print(&format!("the Rust alone, {}", entry.name()));
+        claims.print(&format!("the Rust alone, {}", entry.name()), *entry);
     }
 }
 
@@ -295,8 +307,11 @@ fn print_tally(entry: Entry, is_linked: bool, tally: &Tally) {
     if entry.is_gauss() {
         tally.gradients.print(entry);
     }
+    if entry == Entry::Step {
+        tally.links.print(entry);
+    }
     if exact::is_claimed(entry) {
-        tally.claims.print(entry.name());
+        tally.claims.print(entry.name(), entry);
     }
 }
 
@@ -324,6 +339,8 @@ fn compare_case(
     }
     tries.extend(spoiling(random, entry, &lent, visit));
     tries.extend(forging(random, entry, &lent, visit));
+    // from a sequence of their own, so that what comes before and after is as it is without them
+    tries.extend(linking(&mut random.apart(), entry, &lent, visit));
     for damages in tries {
         let mut lent = lent.clone();
         let mut outputs = outputs.clone();
@@ -400,6 +417,18 @@ pub fn forging(random: &mut Random, entry: Entry, lent: &Lent, visit: Visit) -> 
     };
     (0..count)
         .filter_map(|_| damage::of_gradients(random, entry, lent))
+        .collect()
+}
+
+/// Damages to what the prediction of linked faces reads.
+pub fn linking(random: &mut Random, entry: Entry, lent: &Lent, visit: Visit) -> Vec<Vec<Damage>> {
+    let count = match visit {
+        Visit::Thorough => 24,
+        Visit::Usual => 6,
+        Visit::Passing => 0,
+    };
+    (0..count)
+        .filter_map(|_| damage::of_linked(random, entry, lent))
         .collect()
 }
 

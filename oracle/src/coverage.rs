@@ -4,7 +4,7 @@
 use crate::calls::{self, Outcome};
 use crate::cases::{self, Case, Settings, Visit};
 use crate::checks::{self, LIMIT};
-use crate::compare::{damages, expected, forging, patterned, spoiling};
+use crate::compare::{damages, expected, forging, linking, patterned, spoiling};
 use crate::damage;
 use crate::entry::{Entry, Part};
 use crate::lent::Lent;
@@ -63,6 +63,7 @@ fn whole_and_damaged(
     let mut tries: Vec<_> = tries.map(damage::refilled).collect();
     tries.extend(spoiling(random, entry, good, visit));
     tries.extend(forging(random, entry, good, visit));
+    tries.extend(linking(&mut random.apart(), entry, good, visit));
     tries.push(Vec::new());
     for damages in tries {
         let mut lent = good.clone();

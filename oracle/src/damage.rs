@@ -1,13 +1,15 @@
 //! Damaged copies of good input: lengths, counts, numbers, indices, chains, codes and links, cells with many
-//! faces, distances, and what the gradients of Gauss read.
+//! faces, distances, what the gradients of Gauss read, and what the prediction of linked faces does.
 
 mod crowd;
 mod distance;
 mod gradient;
+mod linked;
 
 pub use crowd::of_crowd;
 pub use distance::{of_distances, Spread};
 pub use gradient::of_gradients;
+pub use linked::of_linked;
 
 use crate::checks::{self, LIMIT};
 use crate::entry::{Entry, Part, Unit};
@@ -43,6 +45,8 @@ pub enum Damage {
     Flipped(usize),
     /// Every centre of a face or of a cell, from this seed.
     Centres(Spread, u64),
+    /// The fields of a step ordinary numbers, from this seed, and a condition for each face that needs one.
+    Calm(u64),
     /// The distances of every face made anew.
     Refilled,
     /// The records of a table of chains in another order, the chains the same.
@@ -91,6 +95,7 @@ impl Damage {
                 }
             }
             Damage::Centres(spread, seed) => distance::spread(lent, spread, seed),
+            Damage::Calm(seed) => linked::calm(lent, seed),
             Damage::Refilled => refill(lent),
             Damage::Shuffled(part, seed) => shuffle(lent, part, seed),
             Damage::Spare(part) => add_record(lent, part),

@@ -144,8 +144,11 @@ fn parts(x: f64) -> Option<(u64, i32)> {
 pub struct Claimed {
     /// Faces that keep their given flux.
     pub kept: u64,
-    /// Linked pairs that stay opposite.
+    /// Linked pairs whose corrected fluxes are opposite: of a step those with equal coefficients, of a correction those
+    /// that are given opposite ones besides.
     pub opposite: u64,
+    /// Linked pairs of a step, each of which leaves prediction exactly opposite.
+    pub predicted: u64,
 }
 
 /// The functions of the Rust, and their sequence, of which demand 3 claims something.
@@ -158,27 +161,31 @@ pub fn is_claimed(entry: Entry) -> bool {
 
 /// Demand 3 for an accepted call of such an entry.
 pub fn claims(entry: Entry, lent: &Lent, outputs: &Slices) -> Option<Result<Claimed, String>> {
-    let slices = &lent.slices;
     match entry {
-        Entry::Step => Some(
-            balance(lent, &outputs.flux, &outputs.outflow).and_then(|()| {
-                kept_and_opposite(lent, &slices.walls, &outputs.coefficients, &outputs.flux)
-            }),
-        ),
-        Entry::CorrectFaceFluxWithBoundary => Some(kept_and_opposite(
-            lent,
-            &slices.predicted,
-            &slices.coefficients,
-            &outputs.flux,
-        )),
-        Entry::CorrectFaceFluxInPlace => Some(kept_and_opposite(
-            lent,
-            &slices.predicted,
-            &slices.coefficients,
-            &outputs.predicted,
-        )),
+        Entry::Step => Some(step(lent, outputs)),
+        Entry::CorrectFaceFluxWithBoundary => Some(correction(lent, &outputs.flux)),
+        Entry::CorrectFaceFluxInPlace => Some(correction(lent, &outputs.predicted)),
         _ => None,
     }
+}
+
+/// Of a step: kept faces have their wall flux; linked pairs leave prediction exactly opposite, and those with equal
+/// coefficients the correction, a zero's sign aside, whatever their wall fluxes are; and the balance holds.
+fn step(lent: &Lent, outputs: &Slices) -> Result<Claimed, String> {
+    let mut claimed = kept_and_opposite(lent, &lent.slices.walls, &outputs.flux, |face| {
+        equal_peer(lent, &outputs.coefficients, face)
+    })?;
+    claimed.predicted = negated(lent, &outputs.predicted)?;
+    balance(lent, &outputs.flux, &outputs.outflow)?;
+    Ok(claimed)
+}
+
+/// Of a correction: kept faces have their given flux, and pairs that are given opposite fluxes and equal coefficients
+/// stay opposite, a zero's sign aside.
+fn correction(lent: &Lent, flux: &[f64]) -> Result<Claimed, String> {
+    kept_and_opposite(lent, &lent.slices.predicted, flux, |face| {
+        opposite_peer(lent, face)
+    })
 }
 
 /// A cell's terms: how many there are, their exact sum, and the exact sum of their magnitudes.
@@ -267,25 +274,30 @@ pub fn is_kept(lent: &Lent, face: usize) -> bool {
         && lent.slices.codes[2 * face + 1] == 0
 }
 
-/// The face that is linked with this one, where the two are given opposite fluxes, a zero's sign aside, and
-/// equal coefficients.
-pub fn opposite_peer(
-    lent: &Lent,
-    given: &[f64],
-    coefficients: &[f64],
-    face: usize,
-) -> Option<usize> {
-    let peer = lent.slices.codes[2 * face + 1].checked_sub(1)?;
-    let is_opposite = given[face] == -given[peer] && coefficients[face] == coefficients[peer];
-    is_opposite.then_some(peer)
+fn peer(lent: &Lent, face: usize) -> Option<usize> {
+    lent.slices.codes[2 * face + 1].checked_sub(1)
 }
 
-/// Kept faces have the bits of their given flux, and opposite pairs have opposite fluxes, a zero's sign aside.
+/// The face that is linked with this one, where the two have equal coefficients.
+pub fn equal_peer(lent: &Lent, coefficients: &[f64], face: usize) -> Option<usize> {
+    peer(lent, face).filter(|&peer| coefficients[face] == coefficients[peer])
+}
+
+/// The face that is linked with this one, where a correction is given opposite fluxes of the two, a zero's sign aside,
+/// and equal coefficients.
+pub fn opposite_peer(lent: &Lent, face: usize) -> Option<usize> {
+    let given = &lent.slices.predicted;
+    let peer = equal_peer(lent, &lent.slices.coefficients, face);
+    peer.filter(|&peer| given[face] == -given[peer])
+}
+
+/// Kept faces have the bits of their given flux, and faces with such a peer have a flux opposite to that one's, a zero's
+/// sign aside.
 fn kept_and_opposite(
     lent: &Lent,
     given: &[f64],
-    coefficients: &[f64],
     flux: &[f64],
+    peer: impl Fn(usize) -> Option<usize>,
 ) -> Result<Claimed, String> {
     let mut claimed = Claimed::default();
     for face in 0..lent.counts.faces {
@@ -295,7 +307,7 @@ fn kept_and_opposite(
             }
             claimed.kept += 1;
         }
-        if let Some(peer) = opposite_peer(lent, given, coefficients, face) {
+        if let Some(peer) = peer(face) {
             if flux[face] != -flux[peer] {
                 return Err(format!("faces {face} and {peer} are not opposite"));
             }
@@ -303,4 +315,23 @@ fn kept_and_opposite(
         }
     }
     Ok(claimed)
+}
+
+/// How many linked pairs there are. Each leaves prediction with finite fluxes, the higher face with the bits of the
+/// lower's negated.
+fn negated(lent: &Lent, predicted: &[f64]) -> Result<u64, String> {
+    let mut pairs = 0;
+    for face in 0..lent.counts.faces {
+        let Some(peer) = peer(lent, face).filter(|&peer| face < peer) else {
+            continue;
+        };
+        let is_exact = predicted[peer].to_bits() == (-predicted[face]).to_bits();
+        if !is_exact || !predicted[face].is_finite() {
+            return Err(format!(
+                "faces {face} and {peer} do not leave prediction exactly opposite"
+            ));
+        }
+        pairs += 1;
+    }
+    Ok(pairs)
 }

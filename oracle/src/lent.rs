@@ -159,6 +159,13 @@ impl Slices {
             Slice::Whole(_) => unreachable!("a slice of floats"),
         }
     }
+
+    pub fn floats_mut(&mut self, part: Part) -> &mut Vec<f64> {
+        match self.slice_mut(part) {
+            SliceMut::Float(numbers) => numbers,
+            SliceMut::Whole(_) => unreachable!("a slice of floats"),
+        }
+    }
 }
 
 /// What is lent to a call.

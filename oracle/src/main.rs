@@ -14,9 +14,11 @@ mod exact;
 mod gradients;
 mod lent;
 mod lines;
+mod linked;
 mod list;
 mod makers;
 mod mirror;
+mod pairs;
 mod port;
 mod random;
 #[cfg(feature = "sheets")]
@@ -34,6 +36,7 @@ usage: oracle COMMAND
   oneslice                         the lines of the program `oneslice`
   distances                        the lines of the program `distances`
   gradients                        the lines of the program `gradients`
+  pairs                            the lines of the program `pairs`
   sheets FILE...                   the port against the Rust, on sheets of the sheet program
   bench                            times of both sides
   self-test [--seed S] [--cases N] the comparison tried on the Rust itself and on spoiled copies of it
@@ -71,6 +74,7 @@ fn main() -> ExitCode {
         "oneslice" => print!("{}", edges::in_place()),
         "distances" => print!("{}", distances::text()),
         "gradients" => print!("{}", gradients::text()),
+        "pairs" => print!("{}", pairs::text()),
         "bench" => bench::run(&port::linked()),
         "coverage-cases" => coverage::run(&settings),
         _ => return refused(),

@@ -6,7 +6,7 @@ mod grid;
 mod special;
 mod values;
 
-pub use grid::{distorted_quads, hexes, quads};
+pub use grid::{distorted_quads, hexes, linked_quads, quads};
 pub use values::{canonical, fill, float, root_argument, Style};
 
 use crate::lent::Lent;

@@ -5,14 +5,17 @@ mod crowded;
 mod distances;
 mod gauss;
 mod gradients;
+mod linked;
 
 use crate::calls::{self, Outcome};
 use crate::cases::{self, Settings};
 use crate::checks;
 use crate::compare::{self, expected};
+use crate::damage;
 use crate::entry::{Entry, Part};
 use crate::exact;
 use crate::lent::{Lent, SliceMut, Slices};
+use crate::linked::{pairs, Link};
 use crate::port::{Answer, Call, Port};
 use crate::random::Random;
 
@@ -47,6 +50,13 @@ pub fn run(settings: &Settings) -> bool {
     let differ = compare::differing(&second, &small);
     println!("the gradients of Gauss written a second time: {differ} differ");
     all_right &= differ == 0;
+    let second = Port {
+        sqrt: None,
+        entries: vec![(Entry::Step, linked::rewritten())],
+    };
+    let differ = compare::differing(&second, &small);
+    println!("the step's linked faces written a second time: {differ} differ");
+    all_right &= differ == 0;
     let mut try_sham = |name: &str, port: Port| {
         let differ = compare::differing(&port, &small);
         println!("sham, {name}: {differ} differ");
@@ -54,6 +64,7 @@ pub fn run(settings: &Settings) -> bool {
     };
     let shams = SHAMS.iter().chain(crowded::SHAMS);
     let shams = shams.chain(distances::SHAMS).chain(gradients::SHAMS);
+    let shams = shams.chain(linked::SHAMS);
     for sham in shams {
         let port = Port {
             sqrt: None,
@@ -74,25 +85,35 @@ struct Breach {
     name: &'static str,
     entry: Entry,
     breach: fn(&Lent, &mut Slices) -> bool,
+    /// What the claim that finds it says.
+    says: &'static str,
 }
 
 /// Whether the exact arithmetic finds every breach of demand 3 in the Rust's outputs.
 fn breaches_are_caught(settings: &Settings) -> bool {
     let mut counts = vec![(0, 0); BREACHES.len()];
     let mut random = Random::new(settings.seed);
-    cases::each(&mut random, settings, &mut |random, case, _| {
+    cases::each(&mut random, settings, &mut |random, case, visit| {
         for (breach, (tried, caught)) in BREACHES.iter().zip(&mut counts) {
-            let lent = case.lent_to(random, breach.entry);
-            if checks::is_crowded(breach.entry, &lent) {
-                continue;
-            }
-            let Outcome::Accepted(mut outputs) = calls::run(breach.entry, &lent) else {
-                continue;
-            };
-            if (breach.breach)(&lent, &mut outputs) {
-                *tried += 1;
-                let claims = exact::claims(breach.entry, &lent, &outputs);
-                *caught += u64::from(claims.is_some_and(|claims| claims.is_err()));
+            let good = case.lent_to(random, breach.entry);
+            let mut copies = compare::linking(random, breach.entry, &good, visit);
+            copies.push(Vec::new());
+            for damages in copies {
+                let mut lent = good.clone();
+                let mut outputs = compare::patterned(breach.entry, &good);
+                damage::apply(breach.entry, &damages, &mut lent, &mut outputs);
+                let outcome = expected(breach.entry, &lent, &outputs);
+                let Outcome::Accepted(mut outputs) = outcome else {
+                    continue;
+                };
+                if (breach.breach)(&lent, &mut outputs) {
+                    *tried += 1;
+                    let claims = exact::claims(breach.entry, &lent, &outputs);
+                    let is_caught = claims.is_some_and(|claims| {
+                        claims.is_err_and(|failure| failure.contains(breach.says))
+                    });
+                    *caught += u64::from(is_caught);
+                }
             }
         }
     });
@@ -119,7 +140,31 @@ const fn not_kept(name: &'static str, entry: Entry) -> Breach {
             kept.map(|face| nudge(&mut corrected(outputs)[face]))
                 .is_some()
         },
+        says: "does not keep its flux",
     }
+}
+
+/// The two predicted fluxes of a linked pair, the lower's first, changed where they let it.
+macro_rules! not_negated {
+    ($name:literal, $change:expr) => {
+        Breach {
+            name: $name,
+            entry: Entry::Step,
+            breach: |lent, outputs| {
+                let change: fn([f64; 2]) -> Option<[f64; 2]> = $change;
+                pairs(lent).any(|Link { face, peer }| {
+                    let fluxes = [face, peer].map(|face| outputs.predicted[face]);
+                    let changed = change(fluxes);
+                    if let Some([lower, higher]) = changed {
+                        outputs.predicted[face] = lower;
+                        outputs.predicted[peer] = higher;
+                    }
+                    changed.is_some()
+                })
+            },
+            says: "do not leave prediction exactly opposite",
+        }
+    };
 }
 
 const BREACHES: &[Breach] = &[
@@ -130,6 +175,7 @@ const BREACHES: &[Breach] = &[
             outputs.outflow[0] = f64::NAN;
             true
         },
+        says: "is not finite",
     },
     Breach {
         name: "an outflow past its bound",
@@ -140,6 +186,7 @@ const BREACHES: &[Breach] = &[
             outputs.outflow[last] += fluxes.fold(f64::from_bits(1), f64::max);
             true
         },
+        says: "out of its bound",
     },
     not_kept(
         "a flux that is not kept",
@@ -153,14 +200,45 @@ const BREACHES: &[Breach] = &[
         name: "a linked pair that is not opposite",
         entry: Entry::CorrectFaceFluxWithBoundary,
         breach: |lent, outputs| {
-            let slices = &lent.slices;
+            let mut faces = 0..lent.counts.faces;
+            let pair = faces.find(|&face| exact::opposite_peer(lent, face).is_some());
+            pair.map(|face| nudge(&mut outputs.flux[face])).is_some()
+        },
+        says: "are not opposite",
+    },
+    Breach {
+        name: "a linked pair of a step that is not opposite, its wall fluxes neither",
+        entry: Entry::Step,
+        breach: |lent, outputs| {
+            let walls = &lent.slices.walls;
             let mut faces = 0..lent.counts.faces;
             let pair = faces.find(|&face| {
-                exact::opposite_peer(lent, &slices.predicted, &slices.coefficients, face).is_some()
+                let peer = exact::equal_peer(lent, &outputs.coefficients, face);
+                peer.is_some_and(|peer| walls[face] != -walls[peer])
             });
             pair.map(|face| nudge(&mut outputs.flux[face])).is_some()
         },
+        says: "are not opposite",
     },
+    not_negated!(
+        "a linked pair predicted one bit off",
+        |[lower, mut higher]| {
+            nudge(&mut higher);
+            Some([lower, higher])
+        }
+    ),
+    not_negated!(
+        "a linked pair predicted with one flux for both",
+        |[lower, _]| Some([lower; 2])
+    ),
+    not_negated!(
+        "a linked pair predicted with a zero of the same sign",
+        |[lower, higher]| (lower == 0.0).then_some([lower, -higher])
+    ),
+    not_negated!(
+        "a linked pair predicted with a NaN and its negation",
+        |_| { Some([f64::NAN, -f64::NAN]) }
+    ),
 ];
 
 /// The root of a subnormal number from its leading 26 bits only.

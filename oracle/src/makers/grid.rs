@@ -81,13 +81,26 @@ pub fn distorted_quads(columns: usize, rows: usize) -> Made {
     plain(Shape::Quads, [columns, rows, 0], 0.2)
 }
 
+/// Squares of side 1, the faces of the left side linked with those of the right.
+pub fn linked_quads(columns: usize, rows: usize) -> Made {
+    let mut grid = even(Shape::Quads, [columns, rows, 0], 0.0);
+    grid.periodic[0] = true;
+    build(&mut Random::new(0), &grid).expect("a grid of such cells is a mesh")
+}
+
 /// Cubes of side 1.
 pub fn hexes(columns: usize, rows: usize, layers: usize) -> Made {
     plain(Shape::Hexes, [columns, rows, layers], 0.0)
 }
 
 fn plain(shape: Shape, counts: [usize; 3], noise: f64) -> Made {
-    let grid = Grid {
+    let grid = even(shape, counts, noise);
+    build(&mut Random::new(0), &grid).expect("a grid of such cells is a mesh")
+}
+
+/// Lines at a distance of 1.
+fn even(shape: Shape, counts: [usize; 3], noise: f64) -> Grid {
+    Grid {
         shape,
         counts,
         lines: counts.map(|count| (0..=count).map(|at| at as f64).collect()),
@@ -95,8 +108,7 @@ fn plain(shape: Shape, counts: [usize; 3], noise: f64) -> Made {
         scale: [1.0; 3],
         shift: [0.0; 3],
         periodic: [false; 3],
-    };
-    build(&mut Random::new(0), &grid).expect("a grid of such cells is a mesh")
+    }
 }
 
 fn counts(random: &mut Random, shape: Shape, most: usize) -> [usize; 3] {

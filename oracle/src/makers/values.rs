@@ -171,7 +171,7 @@ fn fill_field(random: &mut Random, lent: &mut Lent, part: Part, usual: Style, ca
             numbers[at] = f64::from_bits(random.pick(&SPECIAL));
         }
     }
-    *floats(&mut lent.slices, part) = numbers;
+    *lent.slices.floats_mut(part) = numbers;
 }
 
 /// Puts a number of any kind, often a NaN with a payload, on one of the faces where a call hands it on as
@@ -189,7 +189,7 @@ fn mark(
         return;
     }
     let face = random.pick(&faces);
-    floats(&mut lent.slices, part)[face] = match random.chance(2, 3) {
+    lent.slices.floats_mut(part)[face] = match random.chance(2, 3) {
         true => nan(random),
         false => float(random, Style::Wild),
     };
@@ -213,13 +213,6 @@ fn mirror(random: &mut Random, lent: &mut Lent) {
                 lent.slices.coefficients[peer] = lent.slices.coefficients[face];
             }
         }
-    }
-}
-
-fn floats(slices: &mut Slices, part: Part) -> &mut Vec<f64> {
-    match slices.slice_mut(part) {
-        SliceMut::Float(numbers) => numbers,
-        SliceMut::Whole(_) => unreachable!("a slice of floats"),
     }
 }
 

@@ -103,13 +103,7 @@ impl Case {
             counts: COUNTS,
             adjacency: &ADJACENCY,
         };
-        mesh::face_distances(
-            &faces,
-            &self.places,
-            MESH,
-            &self.codes,
-            &mut self.geometry,
-        )
+        mesh::face_distances(&faces, &self.places, MESH, &self.codes, &mut self.geometry)
     }
 
     pub(crate) fn call(&self, out: &mut Outputs<'_>) -> Answer {

@@ -40,7 +40,7 @@ fn left(out: &Outputs<'_>) -> &'static str {
     }
 }
 
-// Ends a line.
+// Ends a case's line.
 fn tell(rt: &impl Print, answer: Answer, out: &Outputs<'_>) -> io::Result<()> {
     if let Err(refusal) = answer {
         return println!(rt; "{refusal}, {}", left(out));

@@ -358,7 +358,8 @@ uint64_t juvandeer_pressure_face_coefficients_with_boundary(
     size_t *index);
 
 /* The gradient of the pressure from the stencil, and the flux predicted with it: of a face with two
- * cells that of Rhie and Chow, of any other the wall flux as lent.
+ * cells that of Rhie and Chow, of any other the wall flux as lent, with a link too. juvandeer_step
+ * predicts its linked faces besides.
  *
  *   in   adjacency 2 x faces, geometry 11 x faces, places 4 x cells; stencil before starts 1 x cells,
  *        equations 2 x records, weights 4 x records and inverses 9 x cells; velocity before
@@ -476,8 +477,14 @@ uint64_t juvandeer_continuity_metrics(
     double *metrics, size_t metrics_len,
     size_t *index);
 
-/* The coupling step: stencil, predicted flux, coefficients with boundary, corrected flux, outflow and
- * metrics, as the functions above give them, with one set of conditions. The first refusal is its own.
+/* The coupling step: stencil, predicted flux, coefficients with boundary, predicted flux of the linked
+ * faces, corrected flux, outflow and metrics, with one set of conditions; all but the fourth as the
+ * functions above give them. The first refusal is its own.
+ *
+ * A linked face is predicted as if it had two cells: the other is the owner of the face that it is linked
+ * to, its centre less the translation. The coefficient is the face's own, with boundary. Of two faces that
+ * are linked the lower keeps this flux, and the higher has the lower's negated in place of its own. The
+ * wall flux counts at faces with one cell and no link; at any other face it is not read.
  *
  *   in   adjacency 2 x faces, geometry 11 x faces, heads 2 x cells, places 4 x cells,
  *        facing 2 x face records, bordering 2 x neighbour records; number before codes 2 x faces and
@@ -489,12 +496,17 @@ uint64_t juvandeer_continuity_metrics(
  *        outflow 1 x cells, metrics 2
  *
  * Refusals: 1 to 5, 14, 6 and 20, outputs untouched; 7 to 10 and 12, and 1 where the equations need more
- * than records, outputs +0.0 and 0. 9 has index 0 where a metric or an outflow is not finite.
+ * than records, outputs +0.0 and 0. After the coefficients and before the correction it is 9 at the lowest
+ * linked face whose own flux, before any is negated, is not finite. 9 has index 0 where a metric or an
+ * outflow is not finite.
  *
  * Proved of every accepted step: fluxes and outflows are finite, each outflow is within
  * (n - 1) x 2^-53 x (sum of magnitudes) of the exact sum of its cell's n fluxes, and together they
  * equal the flux through the faces with one cell within the sum of these bounds. n is at most 26, so
- * both hold with 25 for n - 1 too. docs/BALANCE.md says what may be quoted. */
+ * both hold with 25 for n - 1 too. A face with one cell, no link and a zero gradient keeps its wall flux.
+ * Of two linked faces the higher has exactly the lower's predicted flux negated; where their coefficients
+ * are equal, their corrected fluxes are opposite, a zero's sign aside. docs/BALANCE.md says what may be
+ * quoted. */
 uint64_t juvandeer_step(
     struct juvandeer_counts counts,
     const size_t *adjacency, size_t adjacency_len,

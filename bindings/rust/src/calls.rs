@@ -178,7 +178,7 @@ impl Mesh {
     }
 
     /// The predicted flux of each face: by Rhie and Chow between two cells, the wall flux as given at a face
-    /// with one.
+    /// with one, linked or not. [`Mesh::step`] predicts linked faces too.
     ///
     /// # Errors
     ///

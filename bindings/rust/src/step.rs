@@ -20,7 +20,7 @@ pub struct StepInput<'a> {
     pub pressure: &'a CellField,
     /// The momentum response of each cell, as [`Mesh::momentum_inverse_diagonal`] gives it.
     pub responses: &'a CellField,
-    /// The wall flux of each face; it counts at faces with one cell.
+    /// The wall flux of each face; it counts at faces with one cell and no link, and is not read at any other.
     pub walls: &'a FaceField,
     /// The pressure correction of each cell.
     pub correction: &'a CellField,
@@ -33,7 +33,7 @@ pub struct Step {
     pub stencil: Stencil,
     /// The gradient of the pressure.
     pub gradient: VectorField,
-    /// The predicted flux.
+    /// The predicted flux: of two linked faces the higher has the lower's negated.
     pub predicted: FaceField,
     /// The coefficient of each face.
     pub coefficients: FaceField,
@@ -57,12 +57,19 @@ impl Step {
 }
 
 impl Mesh {
-    /// The coupling step: stencil, predicted flux, coefficients, corrected flux, outflow and metrics, with
-    /// [`Mesh::stencil_room`]. The mass balance of an accepted step is proved; [`Step::balance`] shows it.
+    /// The coupling step: stencil, predicted flux, coefficients, predicted flux of the linked faces, corrected
+    /// flux, outflow and metrics, with [`Mesh::stencil_room`]. The mass balance of an accepted step is proved;
+    /// [`Step::balance`] shows it. Proved too: of two linked faces the higher has exactly the lower's predicted
+    /// flux negated, and where their coefficients are equal, their corrected fluxes are opposite, a zero's sign
+    /// aside.
+    ///
+    /// A linked face is predicted by Rhie and Chow, with the coefficient of that face, as if the cell beyond its
+    /// link were moved back by the translation. [`Mesh::rhie_chow_predicted_flux`] gives it the wall flux.
     ///
     /// # Errors
     ///
-    /// The first refusal of the parts in that order, after those of shape and mesh: 1 to 5, 14, 6.
+    /// The first refusal of the parts in that order, after those of shape and mesh: 1 to 5, 14, 6. That of the
+    /// linked faces is 9 at the lowest whose own flux, before any is negated, is not finite.
     pub fn step(&self, input: StepInput<'_>) -> Result<Step, Refusal> {
         self.step_in(input, self.stencil_room())
     }

@@ -4,8 +4,8 @@
 
 mod common;
 
-use common::{answer, base, floats, stored, words, Answer, Base, Made};
-use juvandeer::{Condition, Dimension, Mesh, Stencil};
+use common::{answer, base, floats, stencil_words, step_words, stored, words, Answer, Base, Made};
+use juvandeer::{Condition, Dimension, Mesh};
 
 /// Makes a call and gives its outputs in the library's order.
 type Call = fn(&Made) -> Answer;
@@ -22,19 +22,6 @@ fn line(entry: &str, case: &str) -> String {
 /// The answer that is stored for a case.
 fn expected(entry: &str, case: &str) -> Answer {
     answer(&line(entry, case))
-}
-
-fn wholes(values: &[usize]) -> Vec<u64> {
-    values.iter().map(|&n| n as u64).collect()
-}
-
-fn stencil_words(stencil: &Stencil) -> Vec<Vec<u64>> {
-    vec![
-        wholes(stencil.starts()),
-        wholes(stencil.equations()),
-        floats(stencil.weights()),
-        floats(stencil.inverses()),
-    ]
 }
 
 fn diagonal(m: &Made) -> Answer {
@@ -113,15 +100,7 @@ fn metrics(m: &Made) -> Answer {
 
 fn step(m: &Made) -> Answer {
     let out = m.mesh.step_in(m.step_input(), m.room)?;
-    let metrics = [out.metrics.root_mean_square, out.metrics.largest_divergence];
-    let mut words = stencil_words(&out.stencil);
-    words.push(floats(out.gradient.values()));
-    words.push(floats(out.predicted.values()));
-    words.push(floats(out.coefficients.values()));
-    words.push(floats(out.flux.values()));
-    words.push(floats(out.outflow.values()));
-    words.push(floats(&metrics));
-    Ok(words)
+    Ok(step_words(&out))
 }
 
 const ENTRIES: [(&str, Call); 12] = [

@@ -3,7 +3,7 @@
 
 use juvandeer::{
     Cell, CellField, Condition, Conditions, Dimension, Face, FaceField, Mesh, Refusal, Stencil,
-    StepInput, Vec3, VectorField,
+    Step, StepInput, Vec3, VectorField,
 };
 use std::fs;
 use std::path::Path;
@@ -40,6 +40,35 @@ pub fn words(output: &str) -> Vec<u64> {
 
 pub fn floats(values: &[f64]) -> Vec<u64> {
     values.iter().map(|x| x.to_bits()).collect()
+}
+
+fn wholes(values: &[usize]) -> Vec<u64> {
+    values.iter().map(|&n| n as u64).collect()
+}
+
+pub fn stencil_words(stencil: &Stencil) -> Vec<Vec<u64>> {
+    vec![
+        wholes(stencil.starts()),
+        wholes(stencil.equations()),
+        floats(stencil.weights()),
+        floats(stencil.inverses()),
+    ]
+}
+
+/// The outputs of a step in the library's order.
+pub fn step_words(step: &Step) -> Vec<Vec<u64>> {
+    let metrics = step.metrics;
+    let mut words = stencil_words(&step.stencil);
+    words.push(floats(step.gradient.values()));
+    words.push(floats(step.predicted.values()));
+    words.push(floats(step.coefficients.values()));
+    words.push(floats(step.flux.values()));
+    words.push(floats(step.outflow.values()));
+    words.push(floats(&[
+        metrics.root_mean_square,
+        metrics.largest_divergence,
+    ]));
+    words
 }
 
 /// Two unit squares side by side, with the names and numbers of `oracle/src/edges.rs`: face 0 joins cells 0 and

@@ -11,7 +11,10 @@ pub fn advice(refused: &Refused) -> String {
         RefusalKind::BadLink => "in `links`, pair two different faces that have one cell each".to_string(),
         RefusalKind::DegenerateDistance => format!("look at the points of face {index} and its cells, or at the centres in `faces` and `cells`, and at the translation in `links`: these centres must not be in one place"),
         RefusalKind::SingularLeastSquaresStencil => format!("look at the faces of cell {index} and at `dimension`: its neighbours, links and conditions have to lie in as many directions as the mesh has"),
-        RefusalKind::InvalidPressureFaceCoefficient => coefficient(refused.by, index),
+        RefusalKind::InvalidPressureFaceCoefficient => match refused.peer {
+            Some(peer) => linked_coefficient(index, peer),
+            None => coefficient(refused.by, index),
+        },
         RefusalKind::MissingBoundaryCondition => format!("give face {index} a condition in `conditions`, or link it in `links`"),
         RefusalKind::InvalidMomentumDiagonal => format!("give cell {index} a `momentum-diagonal` that is finite and above 0"),
         RefusalKind::InvalidCellMeasure => volume(refused.by, index),
@@ -35,5 +38,14 @@ fn coefficient(by: &str, index: usize) -> String {
         "continuity_metrics" => "take smaller fluxes: an outflow, its square or its quotient with the volume is not finite; 0 names no face".to_string(),
         _ if index == 0 => "look at face 0 as at any such face (area vector out of its owner, responses above 0); where it is sound, look at every face and cell for values of velocity, pressure, wall flux or correction that are not finite, or so large that a flux or an outflow is not".to_string(),
         _ => format!("look at face {index}: its area vector has to lead out of its owner, towards the other side, the responses of its cells have to be above 0, and velocity, pressure, wall flux and correction so small that fluxes and outflows stay finite"),
+    }
+}
+
+/// What the step means by it at a face that is linked.
+fn linked_coefficient(index: usize, peer: usize) -> String {
+    let beyond = format!("towards the cell beyond its link to face {peer}, which the translation in `links` moves back");
+    match index {
+        0 => format!("look at face 0 as at any such face (area vector out of its owner, {beyond}; responses above 0); where it is sound, look at every face and cell for values of velocity, pressure, wall flux or correction that are not finite, or so large that a flux or an outflow is not"),
+        _ => format!("look at face {index}: its area vector has to lead out of its owner, {beyond}, the responses of both cells have to be above 0, and velocity, pressure and correction so small that fluxes and outflows stay finite; no wall flux is read there"),
     }
 }

@@ -9,14 +9,11 @@ use engine::{Condition, Conditions, Mesh};
 
 /// The conditions and links of a sheet. Without `conditions`, or where it names no face, a condition is absent.
 pub fn conditions(entries: &Entries<'_>, mesh: &Mesh) -> Result<Conditions, Mistake> {
-    let place = Place {
-        what: "face",
-        count: mesh.face_count(),
-    };
     let mut conditions = match entries.get("conditions") {
         None => Conditions::absent(mesh),
         Some(entry) => {
-            let list = field(entry, place, Some(Condition::Absent), condition)?;
+            let absent = |_| Some(Condition::Absent);
+            let list = field(entry, Place::faces(mesh), absent, condition)?;
             Conditions::new(mesh, &list)
         }
     };

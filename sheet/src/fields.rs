@@ -4,7 +4,7 @@ use crate::entries::Entry;
 use crate::items::{items, within, Items};
 use crate::mistake::{quoted, AtLine, Mistake};
 use crate::number::number;
-use engine::{Dimension, Vec3};
+use engine::{Dimension, Mesh, Vec3};
 
 /// What a field is over.
 #[derive(Clone, Copy, Debug)]
@@ -13,14 +13,37 @@ pub struct Place {
     pub what: &'static str,
     /// How many the mesh has.
     pub count: usize,
+    /// What is told of one that lacks a value; nothing where each has to have one.
+    pub which: &'static str,
+}
+
+impl Place {
+    /// All cells.
+    pub fn cells(mesh: &Mesh) -> Self {
+        Self {
+            what: "cell",
+            count: mesh.cell_count(),
+            which: "",
+        }
+    }
+
+    /// All faces.
+    pub fn faces(mesh: &Mesh) -> Self {
+        Self {
+            what: "face",
+            count: mesh.face_count(),
+            which: "",
+        }
+    }
 }
 
 /// A value for each place: `NAME uniform VALUE`, or items below `NAME`, or items below `NAME default VALUE` and
-/// that value at the places that no item names. `fallback` is the default where none is written.
+/// that value at the places that no item names. Where no default is written, `fallback` has the value of such a
+/// place, and none where an item has to be given.
 pub fn field<T: Clone>(
     entry: &Entry<'_>,
     place: Place,
-    fallback: Option<T>,
+    fallback: impl Fn(usize) -> Option<T>,
     read: impl Fn(&[&str]) -> Result<T, String>,
 ) -> Result<Vec<T>, Mistake> {
     let name = entry.name;
@@ -28,7 +51,7 @@ pub fn field<T: Clone>(
         None => filled(entry, place, fallback, read),
         Some((&"default", value)) => {
             let value = read(value).at(entry.line)?;
-            filled(entry, place, Some(value), read)
+            filled(entry, place, |_| Some(value.clone()), read)
         }
         Some((&"uniform", value)) => {
             if let Some(item) = entry.items.first() {
@@ -46,21 +69,19 @@ pub fn field<T: Clone>(
     }
 }
 
-/// The items' values, and the default elsewhere.
+/// The items' values, and the fallback's elsewhere.
 fn filled<T: Clone>(
     entry: &Entry<'_>,
     place: Place,
-    default: Option<T>,
+    fallback: impl Fn(usize) -> Option<T>,
     read: impl Fn(&[&str]) -> Result<T, String>,
 ) -> Result<Vec<T>, Mistake> {
     let items = items(entry, place.what)?;
     if let Some((&at, item)) = items.range(place.count..).next() {
         within(at, place.count, place.what).at(item.line)?;
     }
-    if default.is_none() {
-        complete(entry, place, &items)?;
-    }
-    let mut values = default.map_or_else(Vec::new, |value| vec![value; place.count]);
+    let mut values: Vec<Option<T>> = (0..place.count).map(&fallback).collect();
+    complete(entry, place, &items, &values)?;
     let mut last: Option<(usize, T)> = None;
     for (&at, item) in &items {
         let value = match last.take() {
@@ -68,26 +89,28 @@ fn filled<T: Clone>(
             _ => read(item.words).at(item.line)?,
         };
         last = Some((item.line, value.clone()));
-        if at < values.len() {
-            values[at] = value;
-        } else {
-            values.push(value);
-        }
+        values[at] = Some(value);
     }
-    Ok(values)
+    Ok(values.into_iter().flatten().collect())
 }
 
-/// Sees that every place has an item.
-fn complete(entry: &Entry<'_>, place: Place, items: &Items<'_>) -> Result<(), Mistake> {
-    let missing = (0..place.count).find(|at| !items.contains_key(at));
+/// Sees that every place without a value has an item.
+fn complete<T>(
+    entry: &Entry<'_>,
+    place: Place,
+    items: &Items<'_>,
+    values: &[Option<T>],
+) -> Result<(), Mistake> {
+    let asked = || (0..place.count).filter(|&at| values[at].is_none());
+    let missing = asked().find(|at| !items.contains_key(at));
     match missing {
         None => Ok(()),
         Some(at) => {
-            let (name, what) = (entry.name, place.what);
+            let (name, Place { what, which, .. }) = (entry.name, place);
+            let given = asked().filter(|at| items.contains_key(at)).count();
             let reason = format!(
-                "`{name}` has no value for {what} {at}: it has {} of {}, and no default",
-                items.len(),
-                place.count
+                "`{name}` has no value for {what} {at}{which}: it has {given} of {}, and no default",
+                asked().count()
             );
             Err(Mistake::new(entry.line, reason))
         }

@@ -2,7 +2,7 @@
 
 use crate::sheet::{CorrectionFields, Fields, Momentum, Sheet, StepFields};
 use engine::balance::{Balance, BalanceError};
-use engine::{CellField, FaceField, Metrics, Refusal, StepInput};
+use engine::{CellField, FaceField, Metrics, Refusal, RefusalKind, StepInput};
 
 /// What the engine gives for a sheet that it accepts.
 #[derive(Clone, Debug)]
@@ -24,6 +24,8 @@ pub struct Refused {
     pub by: &'static str,
     /// Its refusal.
     pub refusal: Refusal,
+    /// Of 9 by the step: the face that the face of that index is linked to, where it is linked.
+    pub peer: Option<usize>,
 }
 
 impl Sheet {
@@ -48,13 +50,24 @@ impl Sheet {
             walls: &fields.walls,
             correction: &fields.correction,
         });
-        let step = step.map_err(by("step"))?;
+        let step = step.map_err(|refusal| self.refused_step(refusal))?;
         Ok(Outcome {
             balance: step.balance(&self.mesh),
             flux: step.flux,
             outflow: step.outflow,
             metrics: step.metrics,
         })
+    }
+
+    fn refused_step(&self, refusal: Refusal) -> Refused {
+        let peer = match refusal.kind {
+            RefusalKind::InvalidPressureFaceCoefficient => self.conditions.peer(refusal.index),
+            _ => None,
+        };
+        Refused {
+            peer,
+            ..by("step")(refusal)
+        }
     }
 
     fn correction(&self, fields: &CorrectionFields) -> Result<Outcome, Refused> {
@@ -87,5 +100,9 @@ impl Sheet {
 }
 
 pub(crate) fn by(by: &'static str) -> impl Fn(Refusal) -> Refused {
-    move |refusal| Refused { by, refusal }
+    move |refusal| Refused {
+        by,
+        refusal,
+        peer: None,
+    }
 }

@@ -36,7 +36,8 @@ pub struct StepFields {
     pub pressure: CellField,
     /// The momentum diagonal or response of each cell.
     pub momentum: Momentum,
-    /// The wall flux of each face.
+    /// The wall flux of each face; at a face with two cells or a link it is not read, and +0.0 where the sheet
+    /// gives none.
     pub walls: FaceField,
     /// The pressure correction of each cell.
     pub correction: CellField,
@@ -79,19 +80,20 @@ impl Sheet {
     }
 
     pub(crate) fn of_step(entries: &Entries<'_>, mesh: Mesh) -> Result<Self, Mistake> {
-        let fields = Reader::of(entries, &mesh).step()?;
-        Self::of(entries, mesh, Fields::Step(fields))
+        let conditions = conditions(entries, &mesh)?;
+        let fields = Reader::of(entries, &mesh).step(&conditions)?;
+        Ok(Self {
+            conditions,
+            fields: Fields::Step(fields),
+            mesh,
+        })
     }
 
     pub(crate) fn of_correction(entries: &Entries<'_>, mesh: Mesh) -> Result<Self, Mistake> {
         let fields = Reader::of(entries, &mesh).correction()?;
-        Self::of(entries, mesh, Fields::Correction(fields))
-    }
-
-    fn of(entries: &Entries<'_>, mesh: Mesh, fields: Fields) -> Result<Self, Mistake> {
         Ok(Self {
             conditions: conditions(entries, &mesh)?,
-            fields,
+            fields: Fields::Correction(fields),
             mesh,
         })
     }
@@ -108,12 +110,12 @@ impl<'a> Reader<'a> {
         Self { entries, mesh }
     }
 
-    fn step(&self) -> Result<StepFields, Mistake> {
+    fn step(&self, conditions: &Conditions) -> Result<StepFields, Mistake> {
         Ok(StepFields {
             velocity: self.velocity()?,
             pressure: CellField::new(self.mesh, self.cells("pressure")?),
             momentum: self.momentum()?,
-            walls: FaceField::new(self.mesh, self.faces("wall-flux")?),
+            walls: FaceField::new(self.mesh, self.walls(conditions)?),
             correction: CellField::new(self.mesh, self.cells("pressure-correction")?),
         })
     }
@@ -129,7 +131,7 @@ impl<'a> Reader<'a> {
     fn velocity(&self) -> Result<VectorField, Mistake> {
         let entry = self.entries.need("velocity", WHY)?;
         let read = |words: &[&str]| vector(self.mesh.dimension(), words);
-        let vectors = field(entry, self.cell_place(), None, read)?;
+        let vectors = field(entry, Place::cells(self.mesh), |_| None, read)?;
         Ok(VectorField::new(self.mesh, &vectors))
     }
 
@@ -154,28 +156,38 @@ impl<'a> Reader<'a> {
         }
     }
 
+    /// The wall flux, which is asked for at faces with one cell and no link; without any such face the entry may be
+    /// missing.
+    fn walls(&self, conditions: &Conditions) -> Result<Vec<f64>, Mistake> {
+        let place = Place {
+            which: ", which has one cell and no link",
+            ..Place::faces(self.mesh)
+        };
+        let unread = |at| {
+            let face = self.mesh.face(at)?;
+            (face.neighbour.is_some() || conditions.peer(at).is_some()).then_some(0.0)
+        };
+        match self.entries.get("wall-flux") {
+            Some(entry) => field(entry, place, unread, scalar),
+            None => {
+                let what =
+                    |at| format!("`wall-flux`, which face {at} with one cell and no link needs");
+                let faces = 0..place.count;
+                faces
+                    .map(|at| unread(at).ok_or_else(|| self.entries.lacks(&what(at))))
+                    .collect()
+            }
+        }
+    }
+
     pub(crate) fn cells(&self, name: &str) -> Result<Vec<f64>, Mistake> {
-        field(
-            self.entries.need(name, WHY)?,
-            self.cell_place(),
-            None,
-            scalar,
-        )
+        let entry = self.entries.need(name, WHY)?;
+        field(entry, Place::cells(self.mesh), |_| None, scalar)
     }
 
     pub(crate) fn faces(&self, name: &str) -> Result<Vec<f64>, Mistake> {
-        let place = Place {
-            what: "face",
-            count: self.mesh.face_count(),
-        };
-        field(self.entries.need(name, WHY)?, place, None, scalar)
-    }
-
-    fn cell_place(&self) -> Place {
-        Place {
-            what: "cell",
-            count: self.mesh.cell_count(),
-        }
+        let entry = self.entries.need(name, WHY)?;
+        field(entry, Place::faces(self.mesh), |_| None, scalar)
     }
 }
 

@@ -13,7 +13,7 @@ const FIELDS: &str = "\
 velocity uniform 0 0 0
 pressure uniform 0
 momentum-diagonal uniform 1
-wall-flux uniform 0               # out of the mesh, at faces with one cell
+wall-flux uniform 0               # out of the mesh, at faces with one cell and no link
 pressure-correction uniform 0
 ";
 

@@ -3,7 +3,7 @@
 mod common;
 mod exact;
 
-use common::{gradients, listed, path, printed, shipped, text, told, GRADIENT, SHIPPED};
+use common::{gradients, listed, own, path, printed, shipped, text, told, GRADIENT, SHIPPED};
 use exact::Exact;
 use sheet::Sheet;
 
@@ -206,7 +206,7 @@ fn the_balance_holds_in_exact_arithmetic() {
 }
 
 /// What the sheets say of themselves: nothing is left over in a cell, a flux of 1 goes through the duct and the
-/// block, the walls keep theirs, and linked faces hand on what they are given.
+/// block, and linked faces hand on what goes out.
 #[test]
 fn the_fluxes_make_sense() {
     for (name, through) in [
@@ -231,6 +231,69 @@ fn the_fluxes_make_sense() {
         if let Some(through) = through {
             assert!((out - through).abs() < 1e-5, "{name}: {out}");
         }
+    }
+}
+
+/// The fluxes that the original Rust gives for the annulus.
+#[test]
+fn the_fluxes_of_the_annulus() {
+    let [sheet, fluxes] = [path("sheets/annulus.sheet"), own("annulus.fluxes")];
+    let [sheet, fluxes] = [&sheet, &fluxes].map(|file| file.to_str().unwrap());
+    let (output, error, status) = told(&[sheet, "--check", fluxes], "");
+    assert_eq!(output, format!("{fluxes}: 118 of 118 faces right\n"));
+    assert_eq!((error.as_str(), status), ("", 0));
+}
+
+/// The annulus has a wall flux at its walls and nowhere else, and none that is given where it was cut has an effect.
+#[test]
+fn the_annulus_needs_no_wall_flux_where_it_was_cut() {
+    let sheet = shipped("annulus");
+    let read = Sheet::read(sheet.as_bytes()).unwrap();
+    let linked: Vec<usize> = (0..read.mesh.face_count())
+        .filter(|&face| read.conditions.peer(face).is_some())
+        .collect();
+    assert_eq!(
+        linked,
+        [90, 91, 92, 109, 110, 111, 112, 113, 114, 115, 116, 117]
+    );
+    let walls = sheet
+        .lines()
+        .skip_while(|line| !line.starts_with("wall-flux"));
+    let walls: Vec<&str> = walls.take_while(|line| !line.is_empty()).collect();
+    let faces: Vec<&str> = walls[1..]
+        .iter()
+        .map(|line| line.split(' ').next().unwrap())
+        .collect();
+    assert_eq!(faces, ["74-89", "93-108"]);
+    for wall in ["nan", "1.7e308", "-0.25"] {
+        let items = format!("{}\n90-92,109-117  {wall}", walls[0]);
+        let given = sheet.replace(walls[0], &items);
+        assert_ne!(given, sheet);
+        assert_eq!(printed(&given), printed(&sheet), "{wall}");
+    }
+}
+
+/// Round the ring goes ln 2, the vortex's 1/r from 1 to 2, the same through either cut as between any two columns
+/// of cells, of which each half has eight.
+#[test]
+fn as_much_goes_through_the_cuts_as_round_the_ring() {
+    let sheet = Sheet::read(shipped("annulus").as_bytes()).unwrap();
+    let flux = sheet.run().unwrap().flux;
+    let column = |cell: usize| cell / 3;
+    let mut round = [0.0; 16];
+    for (at, &flux) in flux.values().iter().enumerate() {
+        let face = sheet.mesh.face(at).unwrap();
+        let peer = sheet.conditions.peer(at);
+        let beyond = peer.map(|peer| sheet.mesh.face(peer).unwrap().owner);
+        if let Some(other) = face.neighbour.or(beyond) {
+            if column(other) == (column(face.owner) + 1) % 16 {
+                round[column(face.owner)] += flux;
+            }
+        }
+    }
+    for flux in round {
+        assert!((flux - round[0]).abs() < 1e-7, "{round:?}");
+        assert!((flux - 2f64.ln()).abs() < 0.02, "{round:?}");
     }
 }
 

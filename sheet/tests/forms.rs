@@ -3,8 +3,9 @@
 mod common;
 
 use common::{
-    changed, correction_sheet, listed, metrics, printed, step_sheet, stored, told, CUBES,
+    changed, correction_sheet, listed, metrics, printed, step_sheet, stored, told, CUBES, SQUARE,
 };
+use sheet::{Fields, Sheet};
 
 /// The fluxes, the outflows and the metrics that are printed of a sheet.
 fn results(sheet: &str) -> [Vec<u64>; 3] {
@@ -35,6 +36,46 @@ fn a_diagonal_gives_the_step_of_its_inverse() {
     );
     assert!(sheet.contains("momentum-diagonal"));
     assert_eq!(results(&sheet), stored_step());
+}
+
+/// Faces 0, 1 and 2 have two cells or a link: their wall flux is not read, and need not be given.
+#[test]
+fn a_wall_flux_is_read_at_unlinked_faces_alone() {
+    let all = "wall-flux\n0   0\n1   2\n2  -2\n3   0.5\n4  -0.6\n5   0.3\n6   1\n";
+    let asked = "3   0.5\n4  -0.6\n5   0.3\n6   1\n";
+    let sheet = step_sheet();
+    assert_eq!(sheet.matches(all).count(), 1);
+    for others in [
+        "wall-flux\n",
+        "wall-flux\n1  2\n",
+        "wall-flux\n0-2  nan\n",
+        "wall-flux\n1  1.7e308\n2  inf\n",
+        "wall-flux default -inf\n",
+        "wall-flux default 3\n2  7ff4000000000001\n",
+    ] {
+        let sheet = sheet.replace(all, &format!("{others}{asked}"));
+        assert_eq!(results(&sheet), stored_step(), "{others}");
+    }
+    let some = sheet.replace(all, &format!("wall-flux\n2  -2\n{asked}"));
+    let Fields::Step(fields) = Sheet::read(some.as_bytes()).unwrap().fields else {
+        panic!("it has no wall flux");
+    };
+    let walls: Vec<u64> = fields.walls.values().iter().map(|x| x.to_bits()).collect();
+    let lent = [0.0, 0.0, -2.0, 0.5, -0.6, 0.3, 1.0];
+    assert_eq!(walls, lent.map(f64::to_bits));
+}
+
+/// What leaves the square on the one side comes back on the other.
+#[test]
+fn a_step_without_any_wall_flux() {
+    let [flux, outflow, metrics] = results(SQUARE);
+    assert_eq!(flux, [-2.0, 2.0, 8.0, -8.0].map(f64::to_bits));
+    assert_eq!(outflow, [0.0].map(f64::to_bits));
+    assert_eq!(metrics, [0.0; 2].map(f64::to_bits));
+    let given = format!("{SQUARE}wall-flux uniform nan\n");
+    assert_eq!(printed(&given), printed(SQUARE));
+    let begun = format!("{SQUARE}wall-flux\n");
+    assert_eq!(printed(&begun), printed(SQUARE));
 }
 
 /// Were two fields of one kind taken for each other, the stored bits would not come out.
@@ -141,6 +182,53 @@ fn a_step_in_space_by_hand() {
     assert_eq!(flux, expected.map(f64::to_bits));
     assert_eq!(outflow, [-0.5, 0.5].map(f64::to_bits));
     assert_eq!(metrics, [0.5, 0.5].map(f64::to_bits));
+}
+
+/// The same cubes with the ends linked, velocities of 3 and 5 and pressures of 7 and 9. Over the link as between
+/// the cubes the velocity is 4 and the coefficient 0.5, and the pressure gradient is 0: it rises by 2 on one side
+/// of a cube and falls by 2 on the other. Face 0 is predicted with 4 - 0.5 (9 - 7), face 1 with -4 - 0.5 (9 - 7);
+/// of 0.5 and 1 the correction takes 0.5 (1 - 0.5) from either, and face 2 gives back what face 1 takes.
+#[test]
+fn a_step_over_a_link_by_hand() {
+    let sheet = CUBES
+        .replace("conditions", "links\n1 2  2 0 0\nconditions")
+        .replace("velocity uniform 3 0 0", "velocity\n0 3 0 0\n1 5 0 0")
+        .replace("pressure uniform 7", "pressure\n0 7\n1 9")
+        .replace("0  0\n1  1\n", "0  0.5\n1  1\n");
+    let without = sheet.replace("wall-flux default 0\n1  -3\n2   3\n", "wall-flux\n3-10 0\n");
+    assert_ne!(without, sheet);
+    for sheet in [sheet, without] {
+        let [flux, outflow, metrics] = results(&sheet);
+        let mut expected = [0.0; 11];
+        expected[..3].copy_from_slice(&[2.75, -5.25, 5.25]);
+        assert_eq!(flux, expected.map(f64::to_bits));
+        assert_eq!(outflow, [-2.5, 2.5].map(f64::to_bits));
+        assert_eq!(metrics, [2.5, 2.5].map(f64::to_bits));
+    }
+}
+
+/// The cube beyond the link is 4 away, its centre 3.5 from the face and that of the face's own cell 0.5. Face 1 is
+/// predicted with -(3.5 x 2 + 0.5 x 10) / 4 = -3; face 2 has 3, though by its own link it would have
+/// (3.5 x 10 + 0.5 x 2) / 4 = 9. The coefficients are 0.5 x 4 / 16, so that the corrected fluxes are opposite too,
+/// or twice that at face 2 where its area is twice as large.
+#[test]
+fn the_higher_of_two_linked_faces_has_the_flux_of_the_lower() {
+    let sheet = CUBES
+        .replace("conditions", "links\n1 2  5 0 0\nconditions")
+        .replace("velocity uniform 3 0 0", "velocity\n0 2 0 0\n1 10 0 0")
+        .replace("default 0\n1  -3\n2   3\n", "uniform 0\n")
+        .replace("0  0\n1  1\n", "0  0\n1  8\n");
+    let (larger, _) = changed(&sheet, "2 0.5 0.5    1 0 0", "2 0.5 0.5    2 0 0");
+    for (sheet, higher) in [(sheet, 3.0 + 0.125 * 8.0), (larger, 3.0 + 0.25 * 8.0)] {
+        let [flux, outflow, metrics] = results(&sheet);
+        let mut expected = [0.0; 11];
+        expected[..3].copy_from_slice(&[6.0 - 0.5 * 8.0, -3.0 - 0.125 * 8.0, higher]);
+        assert_eq!(flux, expected.map(f64::to_bits));
+        let left = higher - 2.0;
+        assert_eq!(outflow, [-2.0, left].map(f64::to_bits));
+        let mean: f64 = (4.0 + left * left) / 2.0;
+        assert_eq!(metrics, [mean.sqrt(), left].map(f64::to_bits));
+    }
 }
 
 /// Each number of a face's and a cell's line goes to its own place.

@@ -2,7 +2,7 @@
 
 mod common;
 
-use common::{changed, correction_sheet, mistake, shipped, step_sheet, told, SQUARES};
+use common::{changed, correction_sheet, mistake, shipped, step_sheet, told, CUBES, SQUARES};
 
 /// After a change of the line with `old` in it, the mistake on that line is told for `reason`.
 fn told_there(sheet: &str, old: &str, new: &str, reason: &str) {
@@ -124,6 +124,62 @@ fn a_missing_field() {
     );
     let sheet = without(&step_sheet(), "momentum-response\n0  0.5\n1  0.25\n");
     told_at(&sheet, last_line(&sheet), "the sheet ends without `momentum-diagonal` or `momentum-response`, one of which `form step` needs");
+}
+
+#[test]
+fn a_missing_wall_flux() {
+    let items = "wall-flux\n0   0\n1   2\n2  -2\n3   0.5\n4  -0.6\n5   0.3\n6   1\n";
+    let sheet = without(&step_sheet(), items);
+    let reason = "the sheet ends without `wall-flux`, which face 3 with one cell and no link needs";
+    told_at(&sheet, last_line(&sheet), reason);
+    let reason = "the sheet ends without `wall-flux`, which face 1 with one cell and no link needs";
+    let sheet = without(CUBES, "wall-flux default 0\n1  -3\n2   3\n");
+    told_at(&sheet, last_line(&sheet), reason);
+}
+
+/// It is asked for at faces 3 to 6, and without the link at faces 1 and 2.
+#[test]
+fn a_missing_item_of_the_wall_flux() {
+    let reason = |face, given, of| {
+        format!("`wall-flux` has no value for face {face}, which has one cell and no link: it has {given} of {of}, and no default")
+    };
+    let missing = |item: &str| {
+        let sheet = without(&step_sheet(), item);
+        let line = line_of(&sheet, "wall-flux");
+        (sheet, line)
+    };
+    let (sheet, line) = missing("3   0.5\n");
+    told_at(&sheet, line, &reason(3, 3, 4));
+    let (sheet, line) = missing("4  -0.6\n5   0.3\n");
+    told_at(&sheet, line, &reason(4, 2, 4));
+    let (sheet, line) = missing("0   0\n1   2\n2  -2\n3   0.5\n4  -0.6\n5   0.3\n6   1\n");
+    told_at(&sheet, line, &reason(3, 0, 4));
+    // of internal and linked faces nothing is missed
+    let (sheet, _) = missing("0   0\n1   2\n2  -2\n");
+    let unlinked = without(&sheet, "links\n1 2  2 0\n");
+    let line = line_of(&unlinked, "wall-flux");
+    told_at(&unlinked, line, &reason(1, 4, 6));
+    let (other, _) = changed(&sheet, "1 2  2 0", "1 3  2 0");
+    told_at(&other, line_of(&other, "wall-flux"), &reason(2, 3, 4));
+}
+
+/// What is not read is read as a number all the same.
+#[test]
+fn a_wrong_wall_flux_of_a_linked_face() {
+    told_there(
+        &step_sheet(),
+        "1   2",
+        "1   none",
+        "expected a number, found `none`: a decimal, or 16 hexadecimal digits as bits",
+    );
+    told_there(&step_sheet(), "2  -2", "2", "expected one number, found 0");
+    let sheet = step_sheet();
+    let first = line_of(&sheet, "2  -2");
+    let reason = format!("face 2 is given twice, first on line {first}");
+    told_there(&sheet, "3   0.5", "2-3   0.5", &reason);
+    let sheet = step_sheet().replace("wall-flux\n", "wall-flux default\n");
+    let line = line_of(&sheet, "wall-flux");
+    told_at(&sheet, line, "expected one number, found 0");
 }
 
 #[test]

@@ -2,7 +2,7 @@
 
 mod common;
 
-use common::{own, printed, told};
+use common::{listed, own, printed, told};
 use sheet::{polymesh, Fields, Sheet};
 use std::fs;
 use std::path::{Path, PathBuf};
@@ -123,18 +123,15 @@ fn two_cubes_are_joined_and_linked() {
     assert!(matches!(sheet.fields, Fields::Step(_)));
 }
 
+/// No flux is other than 0. Of the linked faces 1 and 2 the higher has the lower's negated, a zero too.
 #[test]
 fn an_imported_sheet_runs_as_it_stands() {
-    for name in ["cube", "two-cubes"] {
-        let output = printed(&imported(name));
-        let fluxes = output
-            .lines()
-            .take_while(|line| *line != "cell outflow")
-            .skip(1);
-        assert!(fluxes
-            .into_iter()
-            .all(|line| line.ends_with(" 0000000000000000")));
-    }
+    assert_eq!(listed(&printed(&imported("cube")), "face flux"), [0; 6]);
+    let mut fluxes = listed(&printed(&imported("two-cubes")), "face flux");
+    let linked: Vec<f64> = fluxes.drain(1..3).map(f64::from_bits).collect();
+    assert_eq!(linked, [0.0; 2]);
+    assert_eq!(linked[1].to_bits(), (-linked[0]).to_bits());
+    assert_eq!(fluxes, [0; 9]);
 }
 
 #[test]

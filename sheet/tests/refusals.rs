@@ -4,7 +4,7 @@ mod common;
 
 use common::{
     changed, correction_sheet, listed, printed, step_sheet, text, told, CUBES, NOT_MET, NUMBERS,
-    SQUARES,
+    SQUARE, SQUARES,
 };
 use engine::Refusal;
 use sheet::run::Refused;
@@ -63,6 +63,34 @@ fn refused() -> Vec<(String, [&'static str; 4])> {
             "refusal 9 index 3 by step",
             "face 3 has a coefficient that is not finite or not above 0, or a flux that is not finite",
             "look at face 3: its area vector has to lead out of its owner, towards the other side, the responses of its cells have to be above 0, and velocity, pressure, wall flux and correction so small that fluxes and outflows stay finite",
+        ]),
+        // an area vector that leads away from the cell beyond the link
+        (step("1  0 -  0 0.5   -1 0", "1  0 -  0 0.5    1 0"), [
+            "bad coefficient at 1.",
+            "refusal 9 index 1 by step",
+            "face 1 has a coefficient that is not finite or not above 0, or a flux that is not finite",
+            "look at face 1: its area vector has to lead out of its owner, towards the cell beyond its link to face 2, which the translation in `links` moves back, the responses of both cells have to be above 0, and velocity, pressure and correction so small that fluxes and outflows stay finite; no wall flux is read there",
+        ]),
+        // a translation that moves the cell beyond to the other side
+        (step("1 2  2 0", "1 2  -2 0"), [
+            "bad coefficient at 1.",
+            "refusal 9 index 1 by step",
+            "face 1 has a coefficient that is not finite or not above 0, or a flux that is not finite",
+            "look at face 1: its area vector has to lead out of its owner, towards the cell beyond its link to face 2, which the translation in `links` moves back, the responses of both cells have to be above 0, and velocity, pressure and correction so small that fluxes and outflows stay finite; no wall flux is read there",
+        ]),
+        // a flux that is predicted at the higher of two linked faces alone
+        (step("2  1 -  2 0.5    1 0    1 0", "2  1 -  2 0.5    1e308 0    1 0"), [
+            "bad coefficient at 2.",
+            "refusal 9 index 2 by step",
+            "face 2 has a coefficient that is not finite or not above 0, or a flux that is not finite",
+            "look at face 2: its area vector has to lead out of its owner, towards the cell beyond its link to face 1, which the translation in `links` moves back, the responses of both cells have to be above 0, and velocity, pressure and correction so small that fluxes and outflows stay finite; no wall flux is read there",
+        ]),
+        // face 0 is linked, or an outflow is not finite
+        (SQUARE.replace("uniform 2 8", "uniform inf 0"), [
+            "bad coefficient at 0.",
+            "refusal 9 index 0 by step",
+            "face 0 has a coefficient that is not finite or not above 0 or a flux that is not finite, or an outflow or a metric is not finite",
+            "look at face 0 as at any such face (area vector out of its owner, towards the cell beyond its link to face 1, which the translation in `links` moves back; responses above 0); where it is sound, look at every face and cell for values of velocity, pressure, wall flux or correction that are not finite, or so large that a flux or an outflow is not",
         ]),
         (correction("3     2", "3     0"), [
             "bad coefficient at 3.",
@@ -274,6 +302,7 @@ fn of_a_step(number: u64, index: usize) -> String {
     report::refusal(&Refused {
         by: "step",
         refusal: Refusal::new(number, index),
+        peer: None,
     })
 }
 

@@ -4,7 +4,7 @@
 mod common;
 
 use common::{
-    gradients, own, printed, shipped, step_sheet, told, GRADIENT, NOT_MET, SHIPPED, SQUARES,
+    gradients, own, printed, shipped, step_sheet, told, GRADIENT, NOT_MET, SHIPPED, SQUARE, SQUARES,
 };
 use sheet::{check, polymesh, report, AnyOutcome, AnySheet};
 use std::fs;
@@ -140,7 +140,7 @@ fn spoiled_sheets() {
     let mut numbers = Numbers(20_261_116);
     let mut sheets: Vec<String> = SHIPPED.map(shipped).to_vec();
     sheets.extend([step_sheet(), common::correction_sheet()]);
-    sheets.extend([shipped(GRADIENT), SQUARES.to_string()]);
+    sheets.extend([shipped(GRADIENT), SQUARES.to_string(), SQUARE.to_string()]);
     let (mut read, mut told) = (0, 0);
     for round in 0..4_000 {
         let sheet = &sheets[round % sheets.len()];
@@ -178,6 +178,7 @@ fn every_sheet_cut_short() {
         shipped("two-cell"),
         shipped(GRADIENT),
         SQUARES.to_string(),
+        SQUARE.to_string(),
     ] {
         for length in 0..sheet.len() {
             tried(&sheet.as_bytes()[..length]);

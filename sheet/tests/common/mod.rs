@@ -74,6 +74,26 @@ pressure-correction
 1  1
 ";
 
+/// A unit square that is linked to itself both ways, so that no face has a wall flux.
+pub const SQUARE: &str = "\
+form step
+dimension 2
+faces
+0  0 -  0 0.5   -1 0
+1  0 -  1 0.5    1 0
+2  0 -  0.5 1    0 1
+3  0 -  0.5 0    0 -1
+cells
+0  0.5 0.5  1
+links
+0 1  1 0
+2 3  0 -1
+velocity uniform 2 8
+pressure uniform 7
+momentum-response uniform 0.5
+pressure-correction uniform 3
+";
+
 /// Two unit squares in `form gradient`, with the faces of `step.sheet`; the pressure is 2x.
 pub const SQUARES: &str = "\
 form gradient

@@ -57,4 +57,7 @@ int change(struct call *call, const char *entry, const char *name);
  * none, or where its distances are refused. */
 int lend_gradient(struct call *call, const struct entry *entry, const char *name);
 
+/* The same of crates/pairs. */
+int lend_pair(struct call *call, const struct entry *entry, const char *name);
+
 #endif

@@ -6,6 +6,9 @@
  * names, and holds its answer and outputs to it. */
 void judge_line(char *line);
 
+/* The same of a line of crates/pairs/stdout. */
+void judge_pair(char *line);
+
 /* Every function of the library but juvandeer_face_distances was called by a line: accepted, refused by a
  * check, and refused by arithmetic where it can be. */
 void judge_coverage(void);
@@ -27,6 +30,8 @@ void judge_crowded(void);
 void judge_distances(void);
 
 void judge_gauss(void);
+
+void judge_linked(void);
 
 void judge_payloads(void);
 

@@ -133,15 +133,15 @@ static int is_of_records(const char *line)
     return !strncmp(line, "hand_out, ", 10) || strstr(line, ", as records: ");
 }
 
-static int lend_case(struct call *call, int e, const char *name)
+static int lend_case(struct call *call, const struct entry *entry, const char *name)
 {
-    if (e >= GAUSS_GRADIENT_FROM_FACES)
-        return lend_gradient(call, &entries[e], name);
-    lend(call, &entries[e]);
-    return change(call, entries[e].name, name);
+    if (entry >= &entries[GAUSS_GRADIENT_FROM_FACES])
+        return lend_gradient(call, entry, name);
+    lend(call, entry);
+    return change(call, entry->name, name);
 }
 
-void judge_line(char *line)
+static void judge(char *line, int (*lend_it)(struct call *, const struct entry *, const char *))
 {
     static struct made made;
     char *name = strstr(line, ", "), *text = strstr(line, ": ");
@@ -156,12 +156,22 @@ void judge_line(char *line)
     made.line = line;
     made.entry = &entries[e];
     made.tells = made.entry->over || e >= GAUSS_GRADIENT_FROM_FACES;
-    if (!lend_case(&made.call, e, name + 2))
+    if (!lend_it(&made.call, &entries[e], name + 2))
         fail("%s: no change of this name in tests/c, or no distances after it", line);
     made.before = made.call;
     made.answer = made.entry->make(&made.call);
     seen[e][hold_result(&made, text + 2)] = 1;
     passed++;
+}
+
+void judge_line(char *line)
+{
+    judge(line, lend_case);
+}
+
+void judge_pair(char *line)
+{
+    judge(line, lend_pair);
 }
 
 void judge_coverage(void)

@@ -1,8 +1,8 @@
 /* Calls every function of include/juvandeer.h. Its arguments are the stored list of roots,
- * crates/roots/stdin, the lines on sentences, crates/sentences/stdout, and files with stored lines on calls
- * of entries, crates/edges/stdout, crates/oneslice/stdout and crates/gradients/stdout: what it expects comes
- * from the original Rust, from MPFR and from document 02, not from the engine. Writes `N passed, 0 failed`,
- * or what is wrong. */
+ * crates/roots/stdin, the lines on sentences, crates/sentences/stdout, those on steps over linked faces,
+ * crates/pairs/stdout, and files with stored lines on calls of entries, crates/edges/stdout,
+ * crates/oneslice/stdout and crates/gradients/stdout: what it expects comes from the original Rust, from MPFR
+ * and from document 02, not from the engine. Writes `N passed, 0 failed`, or what is wrong. */
 #include "judge.h"
 #include "report.h"
 
@@ -47,12 +47,13 @@ static void judge_file(const char *path, void (*judge)(char *line))
 
 int main(int count, char **arguments)
 {
-    if (count < 4)
-        fail("three arguments are needed, the list of roots, the lines on sentences, lines on entries");
+    if (count < 5)
+        fail("four arguments are needed, the list of roots, the lines on sentences, on pairs, on entries");
     judge_environment();
     judge_file(arguments[1], judge_root);
     judge_file(arguments[2], judge_sentence);
-    for (int i = 3; i < count; i++)
+    judge_file(arguments[3], judge_pair);
+    for (int i = 4; i < count; i++)
         judge_file(arguments[i], judge_line);
     judge_coverage();
     judge_digits();
@@ -61,6 +62,7 @@ int main(int count, char **arguments)
     judge_crowded();
     judge_distances();
     judge_gauss();
+    judge_linked();
     judge_payloads();
     judge_room();
     judge_null();

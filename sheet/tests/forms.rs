@@ -3,7 +3,8 @@
 mod common;
 
 use common::{
-    changed, correction_sheet, listed, metrics, printed, step_sheet, stored, told, CUBES, SQUARE,
+    changed, correction_sheet, listed, metrics, own, printed, step_sheet, stored, stored_by, told,
+    CUBES, SQUARE,
 };
 use sheet::{Fields, Sheet};
 
@@ -17,10 +18,14 @@ fn results(sheet: &str) -> [Vec<u64>; 3] {
     ]
 }
 
+/// Those of a step's stored outputs.
+fn of_step(outputs: &[Vec<u64>]) -> [Vec<u64>; 3] {
+    [outputs[7].clone(), outputs[8].clone(), outputs[9].clone()]
+}
+
 /// Those of the stored step.
 fn stored_step() -> [Vec<u64>; 3] {
-    let outputs = stored("step", "as it stands");
-    [outputs[7].clone(), outputs[8].clone(), outputs[9].clone()]
+    of_step(&stored("step", "as it stands"))
 }
 
 #[test]
@@ -63,6 +68,16 @@ fn a_wall_flux_is_read_at_unlinked_faces_alone() {
     let walls: Vec<u64> = fields.walls.values().iter().map(|x| x.to_bits()).collect();
     let lent = [0.0, 0.0, -2.0, 0.5, -0.6, 0.3, 1.0];
     assert_eq!(walls, lent.map(f64::to_bits));
+}
+
+#[test]
+fn a_step_over_two_links_gives_the_stored_bits() {
+    let sheet = std::fs::read_to_string(own("linked.sheet")).unwrap();
+    let expected = of_step(&stored_by("pairs", "step", "as it stands"));
+    assert_eq!(results(&sheet), expected);
+    let infinite = sheet.replace("wall-flux\n", "wall-flux\n0,2-5,8 inf\n");
+    assert_ne!(infinite, sheet);
+    assert_eq!(results(&infinite), expected);
 }
 
 /// What leaves the square on the one side comes back on the other.

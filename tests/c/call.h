@@ -49,6 +49,9 @@ uint64_t bits_at(const struct call *call, enum part part, size_t i);
 /* The base, with the outputs of the entry filled, but for one that it reads too. */
 void lend(struct call *call, const struct entry *entry);
 
+/* Makes the distances of every face; 0 where they are refused. */
+int make_distances(struct call *call);
+
 /* Makes the change of that name, and where a centre may be another the distances; 0 where there is none, or
  * where the distances are refused. */
 int change(struct call *call, const char *entry, const char *name);

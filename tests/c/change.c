@@ -119,13 +119,6 @@ static void apply(struct call *call, const struct row *row)
     }
 }
 
-static int make_distances(struct call *call)
-{
-    uint64_t answer = entries[FACE_DISTANCES].make(call);
-    call->index = SIZE_MAX;
-    return !answer;
-}
-
 int change(struct call *call, const char *entry, const char *name)
 {
     for (size_t i = 0; i < sizeof rows / sizeof *rows; i++) {

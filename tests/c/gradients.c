@@ -32,13 +32,6 @@ static const double pressure[2] = {1.1, -0.7};
 
 static const double face_values[7] = {0.3, -1.1, 0.7, 2.0, -0.4, 0.9, 1.3};
 
-static int make_distances(struct call *call)
-{
-    uint64_t answer = entries[FACE_DISTANCES].make(call);
-    call->index = SIZE_MAX;
-    return !answer;
-}
-
 static int lend_mesh(struct call *call, const struct entry *entry)
 {
     lend(call, entry);

@@ -104,3 +104,10 @@ void lend(struct call *call, const struct entry *entry)
     for (int i = 0; !entry->over && entry->outputs[i] != PARTS; i++)
         fill(call, entry->outputs[i]);
 }
+
+int make_distances(struct call *call)
+{
+    uint64_t answer = entries[FACE_DISTANCES].make(call);
+    call->index = SIZE_MAX;
+    return !answer;
+}

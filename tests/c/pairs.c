@@ -48,13 +48,6 @@ static const double responses[2] = {0.7, 0.25};
 
 static const double walls[FACES] = {0.3, 0.2, 2.0, -2.0, 0.5, 0.1, -0.6, 0.3, 0.7};
 
-static int make_distances(struct call *call)
-{
-    uint64_t answer = entries[FACE_DISTANCES].make(call);
-    call->index = SIZE_MAX;
-    return !answer;
-}
-
 static int lend_mesh(struct call *call, const struct entry *entry)
 {
     lend(call, entry);

@@ -30,9 +30,13 @@ module _ (d : Links) (p : List Float) where
   size = length-list_of (λ (i : ℕ). value_of (linked_at d p i)) (length p)
 
   -- a face without a link
+  pub unlinked_at : (f : ℕ) → peer_at d.bounds.codes f ≡ 0 → linked_at d p f ≡ Ok (get_or p f nan)
+  unfolding linked_at
+  unlinked_at f e = rw e
+
   pub unlinked : (f : ℕ) → f < length p → peer_at d.bounds.codes f ≡ 0 → get_or (linked_fluxes d p) f nan ≡ get_or p f nan
-  unfolding linked_at value_of
-  unlinked f l e = get_or-list_of (λ (i : ℕ). value_of (linked_at d p i)) (length p) f l ∙ rw e
+  unfolding value_of
+  unlinked f l e = get_or-list_of (λ (i : ℕ). value_of (linked_at d p i)) (length p) f l ∙ ap value_of (unlinked_at f e)
 
   -- the lower face of a pair, and the higher
   pub lower_at : (f g : ℕ) → peer_at d.bounds.codes f ≡ suc g → f < g → linked_at d p f ≡ if_own (own_flux d f) (value_of (own_flux d f))
@@ -59,13 +63,18 @@ module _ (d : Links) (p : List Float) where
 
 -- ---- the pass
 
--- one more item written in its place
+-- one more item that stands in its place already
+pub one_left : (g : ℕ → Outcome) (l : List Float) (i : ℕ) → g i ≡ Ok (get_or l i nan) → ((k : ℕ) → k < i → g k ≡ Ok (get_or l k nan))
+    → (k : ℕ) → k < i + 1 → g k ≡ Ok (get_or l k nan)
+one_left g l i e done k b =
+    ⊎_elim (λ (same : k ≡ i). subst (λ (j : ℕ). g j ≡ Ok (get_or l j nan)) (sym same) e) (λ (less : k < i). done k less) (eq-or-lt_of_le (omega (arith, b)))
+
+-- and one that is written there
 pub one_more : (g : ℕ → Outcome) (l : List Float) (i : ℕ) (v : Float) → i < length l → g i ≡ Ok v → ((k : ℕ) → k < i → g k ≡ Ok (get_or l k nan))
     → (k : ℕ) → k < i + 1 → g k ≡ Ok (get_or (set l i v) k nan)
-one_more g l i v room e done k b =
-    ⊎_elim (λ (same : k ≡ i). subst (λ (j : ℕ). g j ≡ Ok (get_or (set l i v) j nan)) (sym same) (e ∙ ap Ok (sym (get_or-set_same l i v nan room))))
-    (λ (less : k < i). done k less ∙ ap Ok (sym (get_or-set_other l i k v nan (λ (z : k ≡ i). omega (arith, less, z)))))
-    (eq-or-lt_of_le (omega (arith, b)))
+one_more g l i v room e done =
+    one_left g (set l i v) i (e ∙ ap Ok (sym (get_or-set_same l i v nan room)))
+    (λ k b. done k b ∙ ap Ok (sym (get_or-set_other l i k v nan (λ (z : k ≡ i). omega (arith, b, z)))))
 
 -- a face reads nothing but its own flux of those that stand there
 pub reads_one : (d : Links) (p q : List Float) (f : ℕ) → get_or p f nan ≡ get_or q f nan → linked_at d p f ≡ linked_at d q f

@@ -1,5 +1,5 @@
 // The flux of linked faces, in the slice that holds the predicted flux of all others.
-ghost use Rattle.std.specs.Prelude.{◌≡◌, ◌+◌, ◌<◌, ℕ, suc, length, get_or};
+ghost use Rattle.std.specs.Prelude.{◌≡◌, ◌+◌, ◌<◌, length, get_or};
 ghost use Rattle.std.specs.Float.{nan};
 ghost use Rattle.mesh.specs.Bundles.{bounds_of_lent};
 ghost use Rattle.mesh.specs.Pass.{value_of};
@@ -48,19 +48,16 @@ impl<'s, 'g, 'a> Links<'s, 'g, 'a> {
         coupling::predicted_flux(span, beyond.distances, self.coefficients[f], owner, other)
     }
 
-    // The flux of the face f, where `predicted` has those of lower faces already.
+    // The flux of the face f, which is linked with the face `peer`, where `predicted` has those of lower faces already.
     #[tactic(auto, unfolding(crate::specs::Linked::linked_at, crate::specs::Linked::if_own, mesh::specs::Pass::value_of))]
-    fn flux_at(&self, f: usize, predicted: &[f64]) -> Outcome
+    fn flux_at(&self, f: usize, peer: usize, predicted: &[f64]) -> Outcome
         requires face { f < self.now.flow.coupling.grid.counts.faces }
+        requires peer { peer_at self.now.bounds.codes.now f ≡ peer + 1 }
         requires size { length predicted.now ≡ self.now.flow.coupling.grid.counts.faces }
         requires lower { let d = links_of_lent self.now in
-            (g : ℕ) → peer_at self.now.bounds.codes.now f ≡ suc g → g < f →
-            get_or predicted.now g nan ≡ value_of (own_flux d g) }
+            peer < f → get_or predicted.now peer nan ≡ value_of (own_flux d peer) }
         ensures answer { result ≡ linked_at (links_of_lent self.now) predicted.now f }
     {
-        let Some(peer) = self.bounds.peer(f) else {
-            return Ok(predicted[f]);
-        };
         let own = self.own_flux(f, peer)?;
         if peer < f {
             Ok(-predicted[peer])
@@ -76,7 +73,10 @@ impl<'s, 'g, 'a> Links<'s, 'g, 'a> {
             Passes (linked_answer d predicted.old) (linked_fluxes d predicted.old) result predicted.new }
     {
         for f in 0..predicted.len() {
-            predicted[f] = self.flux_at(f, predicted).map_err(|reason| reason.at(f))?;
+            if let Some(peer) = self.bounds.peer(f) {
+                let flux = self.flux_at(f, peer, predicted);
+                predicted[f] = flux.map_err(|reason| reason.at(f))?;
+            }
         }
         Ok(())
     }

@@ -6,6 +6,7 @@ pub use counting::{counts_agree, equation_counts, equations_at_most};
 
 use crate::entry::{Entry, Part};
 use crate::lent::{distances, export_stencil, three, Lent, SliceMut, Slices, FACE_WIDTH, OWN};
+use crate::port::Answer;
 use flursys::simple::access::{
     continuity_metrics, pressure_coupling_gradient, rhie_chow_flux_with_coefficients,
 };
@@ -41,6 +42,13 @@ pub enum Outcome {
 }
 
 impl Outcome {
+    pub fn answer(&self) -> Answer {
+        match self {
+            Outcome::Accepted(_) => Answer::Accepted,
+            Outcome::Refused(refusal) => Answer::Refused(refusal.number, refusal.index),
+        }
+    }
+
     /// What the outputs hold after the call, where they held `before` on the way in.
     pub fn contents(&self, entry: Entry, before: &Slices) -> Slices {
         let mut after = before.clone();

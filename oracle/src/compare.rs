@@ -100,8 +100,8 @@ struct Claims {
 }
 
 impl Claims {
-    fn check(&mut self, name: &str, entry: Entry, lent: &Lent, outputs: &Slices) {
-        match exact::claims(entry, lent, outputs) {
+    fn check(&mut self, tried: &Try, entry: Entry, outputs: &Slices) {
+        match exact::claims(entry, tried.lent, outputs) {
             Some(Ok(claimed)) => {
                 self.met += 1;
                 self.kept_faces += claimed.kept;
@@ -109,7 +109,7 @@ impl Claims {
                 self.predicted_pairs += claimed.predicted;
             }
             Some(Err(failure)) => {
-                let failure = format!("{failure}: {} on {name}", entry.name());
+                let failure = format!("{failure}: {} on {}", entry.name(), tried.name());
                 self.failed.push(failure);
             }
             None => {}
@@ -204,8 +204,13 @@ pub fn on(port: &Port, name: &str, entries: &[Entry], lent: &Lent) -> (u64, bool
     let mut tally = Tally::counted();
     for &entry in entries {
         if let Some(call) = port.call(entry) {
-            let outputs = patterned(entry, lent);
-            compare_call(name, entry, call, lent, &outputs, true, &mut tally);
+            let tried = Try {
+                case: name,
+                damages: None,
+                lent,
+                outputs: &patterned(entry, lent),
+            };
+            compare_call(&tried, entry, call, &mut tally);
         }
     }
     let [accepted, before, within] = tally.kinds;
@@ -245,18 +250,79 @@ fn tallies(
     look: &mut dyn FnMut(&mut Random, &Case),
 ) -> Vec<Tally> {
     let mut tallies: Vec<Tally> = Entry::ALL.iter().map(|_| tally()).collect();
+    let has = |entry| port.call(entry).is_some();
+    each_try(random, settings, &has, look, &mut |entry, tried| {
+        let call = port.call(entry).expect("an entry that it has");
+        compare_call(tried, entry, call, &mut tallies[entry as usize]);
+    });
+    tallies
+}
+
+/// A change of what is right to answer and to hand out; it is given the outputs as they were before the call.
+pub type Fault = fn(&Lent, &Slices, &mut Slices, Answer) -> Answer;
+
+/// How many calls differ by each of these faults.
+pub fn differing_by(faults: &[(Entry, Fault)], settings: &Settings) -> Vec<u64> {
+    let mut differ = vec![0; faults.len()];
+    let mut random = Random::new(settings.seed);
+    let has = |entry| faults.iter().any(|(of, _)| *of == entry);
+    each_try(
+        &mut random,
+        settings,
+        &has,
+        &mut |_, _| {},
+        &mut |entry, tried| {
+            let Try { lent, outputs, .. } = *tried;
+            let expected = expected(entry, lent, outputs);
+            let wanted = expected.contents(entry, outputs);
+            let faults = faults.iter().zip(&mut differ);
+            for ((_, fault), differ) in faults.filter(|((of, _), _)| *of == entry) {
+                let mut written = wanted.clone();
+                let answer = fault(lent, outputs, &mut written, expected.answer());
+                let found = difference(entry, lent, &expected, &wanted, answer, &written);
+                *differ += u64::from(found.is_some());
+            }
+        },
+    );
+    differ
+}
+
+/// What is lent to a call: a case as it is, or with damages; and what the outputs hold before.
+struct Try<'a> {
+    case: &'a str,
+    damages: Option<&'a [Damage]>,
+    lent: &'a Lent,
+    outputs: &'a Slices,
+}
+
+impl Try<'_> {
+    fn name(&self) -> String {
+        match self.damages {
+            None => self.case.to_string(),
+            Some(damages) => format!("{}, damaged: {damages:?}", self.case),
+        }
+    }
+}
+
+/// Shows every call of some entries on every case.
+fn each_try(
+    random: &mut Random,
+    settings: &Settings,
+    is_tried: &dyn Fn(Entry) -> bool,
+    look: &mut dyn FnMut(&mut Random, &Case),
+    show: &mut dyn FnMut(Entry, &Try),
+) {
     cases::each(random, settings, &mut |random, case, visit| {
         look(random, case);
         // a sequence for each entry, so that one more or one fewer leaves the cases of the others as they are
         let seed = random.next();
-        for (entry, tally) in Entry::ALL.into_iter().zip(&mut tallies) {
-            if let Some(call) = port.call(entry) {
-                let mut random = Random::new(seed.wrapping_add(entry as u64));
-                compare_case(&mut random, case, entry, call, visit, tally);
-            }
+        for entry in Entry::ALL.into_iter().filter(|&entry| is_tried(entry)) {
+            let mut random = Random::new(seed.wrapping_add(entry as u64));
+            try_case(&mut random, case, entry, visit, &mut |tried| {
+                show(entry, tried);
+            });
         }
     });
-    tallies
 }
 
 fn print_failures(failures: &[String]) {
@@ -316,17 +382,21 @@ fn print_tally(entry: Entry, is_linked: bool, tally: &Tally) {
 }
 
 /// One entry on one case, whole and damaged.
-fn compare_case(
+fn try_case(
     random: &mut Random,
     case: &Case,
     entry: Entry,
-    call: &Call,
     visit: Visit,
-    tally: &mut Tally,
+    show: &mut dyn FnMut(&Try),
 ) {
     let lent = case.lent_to(random, entry);
     let outputs = patterned(entry, &lent);
-    compare_call(&case.name, entry, call, &lent, &outputs, true, tally);
+    show(&Try {
+        case: &case.name,
+        damages: None,
+        lent: &lent,
+        outputs: &outputs,
+    });
     let mut tries = damages(random, entry, &lent, visit);
     tries.extend(crowding(random, entry, &lent, visit));
     if entry.checks_distances() {
@@ -345,8 +415,12 @@ fn compare_case(
         let mut lent = lent.clone();
         let mut outputs = outputs.clone();
         damage::apply(entry, &damages, &mut lent, &mut outputs);
-        let name = format!("{}, damaged: {damages:?}", case.name);
-        compare_call(&name, entry, call, &lent, &outputs, false, tally);
+        show(&Try {
+            case: &case.name,
+            damages: Some(&damages),
+            lent: &lent,
+            outputs: &outputs,
+        });
     }
 }
 
@@ -455,26 +529,19 @@ pub fn expected(entry: Entry, lent: &Lent, outputs: &Slices) -> Outcome {
     }
 }
 
-fn compare_call(
-    name: &str,
-    entry: Entry,
-    call: &Call,
-    lent: &Lent,
-    outputs: &Slices,
-    built: bool,
-    tally: &mut Tally,
-) {
+fn compare_call(tried: &Try, entry: Entry, call: &Call, tally: &mut Tally) {
+    let Try { lent, outputs, .. } = *tried;
     let expected = expected(entry, lent, outputs);
     let mut written = outputs.clone();
     let answer = call(lent, &mut written);
     tally.compared += 1;
     if tally.is_counted {
-        tally.count(entry, lent, outputs, &expected, built);
+        tally.count(entry, lent, outputs, &expected, tried.damages.is_none());
     }
     let wanted = expected.contents(entry, outputs);
     let Some(difference) = difference(entry, lent, &expected, &wanted, answer, &written) else {
         if tally.is_counted && answer == Answer::Accepted {
-            tally.claims.check(name, entry, lent, &written);
+            tally.claims.check(tried, entry, &written);
         }
         return;
     };
@@ -485,7 +552,7 @@ fn compare_call(
         .as_ref()
         .is_none_or(|found| size < (found.cells, found.faces))
     {
-        let mut text = format!("{} on {name}\n{difference}\n", entry.name());
+        let mut text = format!("{} on {}\n{difference}\n", entry.name(), tried.name());
         describe(&mut text, entry, lent);
         describe_outcome(&mut text, entry, &expected, &wanted, answer, &written);
         tally.smallest = Some(Difference {
@@ -649,7 +716,13 @@ fn check_alone(random: &mut Random, case: &Case, alone: &mut Alone) {
             continue;
         }
         if let Outcome::Accepted(outputs) = calls::run(entry, &lent) {
-            claims.check(&case.name, entry, &lent, &outputs);
+            let tried = Try {
+                case: &case.name,
+                damages: None,
+                lent: &lent,
+                outputs: &Slices::default(),
+            };
+            claims.check(&tried, entry, &outputs);
         }
     }
 }

@@ -10,7 +10,7 @@ mod linked;
 use crate::calls::{self, Outcome};
 use crate::cases::{self, Settings};
 use crate::checks;
-use crate::compare::{self, expected};
+use crate::compare::{self, expected, Fault};
 use crate::damage;
 use crate::entry::{Entry, Part};
 use crate::exact;
@@ -19,10 +19,7 @@ use crate::linked::{pairs, Link};
 use crate::port::{Answer, Call, Port};
 use crate::random::Random;
 
-/// One way to be wrong: changes the answer or the outputs of a right call. It is given the outputs as
-/// they were before the call.
-type Fault = fn(&Lent, &Slices, &mut Slices, Answer) -> Answer;
-
+/// One way to be wrong: changes the answer or the outputs of a right call.
 struct Sham {
     name: &'static str,
     entry: Entry,
@@ -57,26 +54,25 @@ pub fn run(settings: &Settings) -> bool {
     let differ = compare::differing(&second, &small);
     println!("the step's linked faces written a second time: {differ} differ");
     all_right &= differ == 0;
-    let mut try_sham = |name: &str, port: Port| {
-        let differ = compare::differing(&port, &small);
-        println!("sham, {name}: {differ} differ");
-        all_right &= differ > 0;
-    };
     let shams = SHAMS.iter().chain(crowded::SHAMS);
     let shams = shams.chain(distances::SHAMS).chain(gradients::SHAMS);
-    let shams = shams.chain(linked::SHAMS);
-    for sham in shams {
-        let port = Port {
-            sqrt: None,
-            entries: vec![(sham.entry, spoiled(sham))],
-        };
-        try_sham(&format!("{}, {}", sham.entry.name(), sham.name), port);
+    let shams: Vec<&Sham> = shams.chain(linked::SHAMS).collect();
+    let faults: Vec<_> = shams.iter().map(|sham| (sham.entry, sham.fault)).collect();
+    for (sham, differ) in shams.iter().zip(compare::differing_by(&faults, &small)) {
+        println!(
+            "sham, {}, {}: {differ} differ",
+            sham.entry.name(),
+            sham.name
+        );
+        all_right &= differ > 0;
     }
     let port = Port {
         sqrt: Some(truncated_root),
         entries: Vec::new(),
     };
-    try_sham("subnormals not brought to full width", port);
+    let differ = compare::differing(&port, &small);
+    println!("sham, subnormals not brought to full width: {differ} differ");
+    all_right &= differ > 0;
     all_right & breaches_are_caught(settings)
 }
 
@@ -254,23 +250,7 @@ fn faithful(entry: Entry) -> Call {
     Box::new(move |lent, outputs| {
         let outcome = expected(entry, lent, outputs);
         *outputs = outcome.contents(entry, outputs);
-        answer(&outcome)
-    })
-}
-
-fn answer(outcome: &Outcome) -> Answer {
-    match outcome {
-        Outcome::Accepted(_) => Answer::Accepted,
-        Outcome::Refused(refusal) => Answer::Refused(refusal.number, refusal.index),
-    }
-}
-
-fn spoiled(sham: &'static Sham) -> Call {
-    let right = faithful(sham.entry);
-    Box::new(move |lent, outputs| {
-        let before = outputs.clone();
-        let answer = right(lent, outputs);
-        (sham.fault)(lent, &before, outputs, answer)
+        outcome.answer()
     })
 }
 
@@ -508,7 +488,7 @@ const SHAMS: &[Sham] = &[
             }
             let outcome = calls::run(entry, lent);
             *outputs = outcome.contents(entry, before);
-            self::answer(&outcome)
+            outcome.answer()
         },
     },
     Sham {

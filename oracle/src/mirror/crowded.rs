@@ -1,6 +1,6 @@
 //! Copies of the port that are wrong about 14.
 
-use super::{answer, Sham};
+use super::Sham;
 use crate::calls;
 use crate::checks::{self, MOST};
 use crate::entry::{Entry, Part};
@@ -37,7 +37,7 @@ fn named(entry: Entry, lent: &Lent, outputs: &mut Slices, cell: Option<usize>) -
     }
     let outcome = calls::run(entry, lent);
     *outputs = outcome.contents(entry, outputs);
-    answer(&outcome)
+    outcome.answer()
 }
 
 fn bad_link(entry: Entry, lent: &Lent) -> Option<usize> {

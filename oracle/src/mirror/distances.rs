@@ -1,6 +1,6 @@
 //! Copies of the port that are wrong about 20, or about the distances that they make.
 
-use super::{answer, Sham};
+use super::Sham;
 use crate::calls;
 use crate::checks::{self, agree, stored_distances};
 use crate::entry::{Entry, Part};
@@ -40,7 +40,7 @@ fn searched(
         (None, Answer::Refused(20, _)) => {
             let outcome = calls::run(entry, lent);
             *outputs = outcome.contents(entry, before);
-            answer(&outcome)
+            outcome.answer()
         }
         (None, right) => right,
     }
@@ -260,7 +260,7 @@ macro_rules! after_arithmetic {
                     calls::Outcome::Accepted(_) => answer,
                     outcome => {
                         *outputs = outcome.contents(Entry::$entry, before);
-                        self::answer(&outcome)
+                        outcome.answer()
                     }
                 },
                 answer => answer,
@@ -552,7 +552,7 @@ pub const SHAMS: &[Sham] = &[
             }
             let outcome = calls::run(Entry::FaceDistances, &same);
             *outputs = outcome.contents(Entry::FaceDistances, before);
-            self::answer(&outcome)
+            outcome.answer()
         },
     },
 ];

@@ -5,7 +5,7 @@ use super::gauss::{
     all, beyond_link, distance, fixed, gathered, image_by, inner, neighbour, owner, scattered,
     sides, to_image, volumes, written, Scatter, Side, Writing, PLAIN, RIGHT,
 };
-use super::{answer, highest_bad_link, Sham};
+use super::{highest_bad_link, Sham};
 use crate::calls;
 use crate::checks;
 use crate::entry::Entry;
@@ -65,7 +65,7 @@ macro_rules! any_mesh {
                 }
                 let outcome = calls::run(Entry::$entry, lent);
                 *outputs = outcome.contents(Entry::$entry, before);
-                self::answer(&outcome)
+                outcome.answer()
             },
         }
     };

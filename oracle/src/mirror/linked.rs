@@ -1,7 +1,7 @@
 //! Copies of the step whose prediction of linked faces is written in another way, stands in another place, or leaves
 //! other outputs.
 
-use super::{answer, faithful, Sham};
+use super::{faithful, Sham};
 use crate::calls::{self, Outcome};
 use crate::cases;
 use crate::checks;
@@ -35,7 +35,7 @@ fn as_written(
     }
     let outcome = step(lent);
     *outputs = outcome.contents(Entry::Step, before);
-    Some(answer(&outcome))
+    Some(outcome.answer())
 }
 
 /// The same where there are links too; where there are none no copy differs.

@@ -26,7 +26,7 @@ pub fn run(settings: &Settings) {
         for entry in Entry::of_gauss() {
             visit_entry(&mut apart, case, entry, visit, settings, &mut answers);
         }
-        later_functions(case);
+        other_predictions(case);
         assert!(calls::others(&case.lent), "{}", case.name);
     });
     for ((entry, number), count) in answers {
@@ -110,8 +110,9 @@ fn number(outcome: &Outcome) -> u64 {
     }
 }
 
-/// A function that later requests bring in, so that the means to reach it stay in order.
-fn later_functions(case: &Case) {
+/// The prediction with a coupling's gradient in the place of the stencil's, without links and with: the step has it with
+/// the stencil's alone.
+fn other_predictions(case: &Case) {
     use flursys::simple::access::{pressure_coupling_gradient, rhie_chow_flux_with_coefficients};
     let mesh = case.lent.mesh();
     let conditions = case.lent.conditions();

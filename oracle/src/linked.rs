@@ -127,15 +127,19 @@ pub fn predicted(writing: &Writing, lent: &Lent) -> Result<Vec<f64>, usize> {
 
 /// The step with this prediction; its other parts are the Rust's.
 pub fn step(writing: &Writing, lent: &Lent) -> Outcome {
-    let mut lent = match cases::begun(lent) {
-        Ok(lent) => lent,
-        Err(refused) => return refused,
-    };
-    match predicted(writing, &lent) {
-        Ok(fluxes) => lent.slices.predicted = fluxes,
+    match cases::begun(lent) {
+        Ok(begun) => finished(writing, begun),
+        Err(refused) => refused,
+    }
+}
+
+/// The same, of what stands before the prediction.
+pub fn finished(writing: &Writing, mut begun: Lent) -> Outcome {
+    match predicted(writing, &begun) {
+        Ok(fluxes) => begun.slices.predicted = fluxes,
         Err(face) => return refused_by_9(face),
     }
-    cases::finished(&lent)
+    cases::finished(&begun)
 }
 
 pub fn refused_by_9(face: usize) -> Outcome {

@@ -260,8 +260,7 @@ fn shifted(random: &mut Random, changed: &mut Changed) {
     }
 }
 
-/// One response for all cells, so that both coefficients of a pair may be equal; at times one area besides, and at times
-/// a translation that is the other's negated.
+/// One response for all cells, and at times opposite areas besides, so that both coefficients of a pair may be equal.
 fn equal(random: &mut Random, changed: &mut Changed) {
     let response = random.pick(&[0.5, 1.0, 0.3, 1e-5]);
     for cell in 0..changed.lent.counts.cells {

@@ -8,7 +8,7 @@ use crate::checks;
 use crate::entry::{Entry, Part};
 use crate::lent::{Lent, Slices, FACE_WIDTH, OTHER, OWN};
 use crate::linked::{
-    area, center, dot, image_by, links, minus, norm, own, owner, pairs, place, predicted,
+    area, center, dot, finished, image_by, links, minus, norm, own, owner, pairs, place, predicted,
     refused_by_9, sides, step, Link, Sides, Writing, RIGHT,
 };
 use crate::port::{Answer, Call};
@@ -126,15 +126,6 @@ fn refused_at(lent: &Lent, answer: Answer) -> Option<Lent> {
     (predicted(&RIGHT, &begun) == Err(face)).then_some(begun)
 }
 
-/// The flux that this writing predicts put in its place, and the rest of the step made.
-fn finished(mut begun: Lent, writing: &Writing) -> Outcome {
-    match predicted(writing, &begun) {
-        Ok(fluxes) => begun.slices.predicted = fluxes,
-        Err(face) => return refused_by_9(face),
-    }
-    cases::finished(&begun)
-}
-
 /// What is lent with the coefficients of faces with two cells, +0.0 elsewhere.
 fn with_inner_coefficients(lent: &Lent) -> Result<Lent, Outcome> {
     let entries = [
@@ -206,7 +197,7 @@ fn corrected_at_once(lent: &Lent) -> Outcome {
         Ok(begun) => begun,
         Err(refused) => return refused,
     };
-    let right = finished(begun.clone(), &RIGHT);
+    let right = finished(&RIGHT, begun.clone());
     let (Some(linked), Err(_)) = (face_of(&right), predicted(&RIGHT, &begun)) else {
         return right;
     };
@@ -494,7 +485,7 @@ pub const SHAMS: &[Sham] = &[
                 }
             }
         }
-        finished(begun, &RIGHT)
+        finished(&RIGHT, begun)
     }),
     stepped!(
         "linked faces before the coefficients with boundary",
@@ -560,7 +551,7 @@ pub const SHAMS: &[Sham] = &[
         let mut calm = begun.clone();
         calm.slices.flux = vec![0.0; lent.counts.faces];
         match calls::run(Entry::ContinuityMetrics, &calm) {
-            Outcome::Accepted(_) => finished(begun, &RIGHT),
+            Outcome::Accepted(_) => finished(&RIGHT, begun),
             refused => refused,
         }
     }),
@@ -575,7 +566,7 @@ pub const SHAMS: &[Sham] = &[
                 lent.slices.adjacency[2 * face + 1] == 0
                     && lent.slices.codes[2 * face..2 * face + 2] == [0, 0]
             });
-            match (finished(begun, &RIGHT), bare) {
+            match (finished(&RIGHT, begun), bare) {
                 (Outcome::Refused(refusal), Some(face)) if refusal.number == 9 => {
                     Outcome::Refused(calls::Refusal {
                         number: 10,

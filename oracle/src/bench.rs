@@ -141,9 +141,9 @@ fn accepted(entry: Entry, answer: Answer) {
 fn growth(port: &Port) {
     println!(
         "\nthe step, ns per face, and bytes of all slices that are lent for it, inputs and outputs, per face; \
-         the port\nallocates nothing; linked are the left side and the right\n\
-         {:22} {:>7} {:>7} {:>8} {:>8} {:>8} {:>7}",
-        "", "cells", "faces", "Rust", "port", "ratio", "bytes"
+         the port\nallocates nothing; linked are the left side and the right; with fewer calls of the Rust there is \
+         one prediction\n{:22} {:>7} {:>7} {:>8} {:>8} {:>8} {:>8} {:>8} {:>7}",
+        "", "cells", "faces", "Rust", "port", "ratio", "fewer", "ratio", "bytes"
     );
     let squares = [[8, 8], [16, 16], [32, 32], [64, 64], [127, 129]].map(|[columns, rows]| {
         (
@@ -161,7 +161,7 @@ fn growth(port: &Port) {
         .map(|[x, y, z]| (format!("{x}x{y}x{z} hexes"), makers::hexes(x, y, z)));
     for (name, made) in squares.into_iter().chain(linked).chain(cubes) {
         let lent = ordinary(&made);
-        let times = entry_times(port, Entry::Step, &lent);
+        let [rust, fewer, engine] = step_times(port, &lent);
         let inputs = Entry::Step.inputs().iter();
         let words: usize = inputs
             .chain(Entry::Step.outputs())
@@ -169,9 +169,10 @@ fn growth(port: &Port) {
             .sum();
         let faces = lent.counts.faces;
         println!(
-            "{name:22} {:7} {faces:7} {} {:7.0}",
+            "{name:22} {:7} {faces:7} {} {} {:7.0}",
             lent.counts.cells,
-            row(times),
+            row([rust, engine]),
+            shown([fewer, ratio(fewer, engine)]),
             8.0 * words as f64 / faces as f64
         );
     }
@@ -179,8 +180,14 @@ fn growth(port: &Port) {
 
 /// The two times and their ratio.
 fn row([rust, port]: [Option<f64>; 2]) -> String {
-    let ratio = rust.zip(port).map(|(rust, port)| port / rust);
-    let cells = [rust, port, ratio];
+    shown([rust, port, ratio(rust, port)])
+}
+
+fn ratio(rust: Option<f64>, port: Option<f64>) -> Option<f64> {
+    rust.zip(port).map(|(rust, port)| port / rust)
+}
+
+fn shown<const N: usize>(cells: [Option<f64>; N]) -> String {
     let shown = cells.map(|cell| cell.map_or("-".to_owned(), |time| format!("{time:.2}")));
     shown.map(|cell| format!("{cell:>8}")).join(" ")
 }
@@ -236,6 +243,23 @@ fn entry_times(port: &Port, entry: Entry, lent: &Lent) -> [Option<f64>; 2] {
             least([&mut rust, &mut repeated]).map(|time| Some(time / faces))
         }
         None => [Some(least([&mut rust])[0] / faces), None],
+    }
+}
+
+/// The same of the step: of the Rust's functions in order and of fewer, and of the port.
+fn step_times(port: &Port, lent: &Lent) -> [Option<f64>; 3] {
+    let faces = lent.counts.faces as f64;
+    let [mut in_order, mut fewer] = [true, false].map(|in_order| rust_step(lent, in_order));
+    match port.call(Entry::Step) {
+        Some(call) => {
+            let mut outputs = patterned(Entry::Step, lent);
+            let mut repeated = || accepted(Entry::Step, call(black_box(lent), &mut outputs));
+            least([&mut in_order, &mut fewer, &mut repeated]).map(|time| Some(time / faces))
+        }
+        None => {
+            let [in_order, fewer] = least([&mut in_order, &mut fewer]);
+            [Some(in_order / faces), Some(fewer / faces), None]
+        }
     }
 }
 
@@ -299,37 +323,7 @@ fn rust_call(entry: Entry, lent: &Lent) -> Box<dyn FnMut()> {
         }
         Entry::IntegratedDivergence => repeat!(flursys::integrated_divergence(&mesh, &flux)),
         Entry::ContinuityMetrics => repeat!(continuity_metrics(&mesh, &flux)),
-        // The least sequence of the Rust's functions that gives what an accepted step hands out: one prediction, of
-        // faces with two cells and of linked ones, with coefficients of all faces. Only the order of refusals needs the
-        // prediction without links before it, and a caller of the Rust would not make the same fluxes twice.
-        Entry::Step => Box::new(move || {
-            let stencil = LeastSquaresGradientStencil::new(&mesh, &conditions).expect("accepted");
-            let coefficients =
-                flursys::pressure_face_coefficients_with_boundary(&mesh, &responses, &conditions)
-                    .expect("accepted");
-            let predicted = rhie_chow_flux_with_coefficients(
-                &mesh,
-                &velocity,
-                &pressure,
-                &responses,
-                &stencil,
-                &walls,
-                &coefficients,
-                None,
-                Some(&conditions),
-            )
-            .expect("accepted");
-            let flux = flursys::correct_face_flux_with_boundary(
-                &mesh,
-                &predicted,
-                &coefficients,
-                &correction,
-                &conditions,
-            )
-            .expect("accepted");
-            black_box(flursys::integrated_divergence(&mesh, &flux).is_ok());
-            black_box(continuity_metrics(&mesh, &flux).is_ok());
-        }),
+        Entry::Step => rust_step(lent, true),
         Entry::FaceDistances => {
             let mut geometry = lent.slices.geometry.clone();
             Box::new(move || {
@@ -351,6 +345,54 @@ fn rust_call(entry: Entry, lent: &Lent) -> Box<dyn FnMut()> {
             repeat!(pressure_coupling_gradient(&mesh, &pressure, None))
         }
     }
+}
+
+/// The Rust's functions as the step has them, in the order of documents 01 and 02: the prediction without links, and
+/// that with links behind the coefficients, which makes the other fluxes once more. Not in order it is the least
+/// sequence that gives what an accepted step hands out: the latter prediction alone, which only the order of refusals
+/// tells from both.
+fn rust_step(lent: &Lent, in_order: bool) -> Box<dyn FnMut()> {
+    let mesh = lent.mesh();
+    let conditions = lent.conditions();
+    let velocity = lent.cell_vectors(Part::Velocity);
+    let pressure = lent.cell_numbers(Part::Pressure);
+    let responses = lent.cell_numbers(Part::Responses);
+    let walls = lent.face_numbers(Part::Walls);
+    let correction = lent.cell_numbers(Part::Correction);
+    Box::new(move || {
+        let stencil = LeastSquaresGradientStencil::new(&mesh, &conditions).expect("accepted");
+        if in_order {
+            let without_links = flursys::rhie_chow_predicted_flux(
+                &mesh, &velocity, &pressure, &responses, &stencil, &walls,
+            );
+            black_box(without_links.is_ok());
+        }
+        let coefficients =
+            flursys::pressure_face_coefficients_with_boundary(&mesh, &responses, &conditions)
+                .expect("accepted");
+        let predicted = rhie_chow_flux_with_coefficients(
+            &mesh,
+            &velocity,
+            &pressure,
+            &responses,
+            &stencil,
+            &walls,
+            &coefficients,
+            None,
+            Some(&conditions),
+        )
+        .expect("accepted");
+        let flux = flursys::correct_face_flux_with_boundary(
+            &mesh,
+            &predicted,
+            &coefficients,
+            &correction,
+            &conditions,
+        )
+        .expect("accepted");
+        black_box(flursys::integrated_divergence(&mesh, &flux).is_ok());
+        black_box(continuity_metrics(&mesh, &flux).is_ok());
+    })
 }
 
 /// The least time of one run of each, measured in turn so that what slows the machine slows all.

@@ -85,13 +85,13 @@ module _ (d : Inputs) (ready : Lendable d) where
 
     predicted_opposite : (f g : ℕ) → f < faces → g < faces → Linked (walls_of d) f g → Opposite (get_or (predicted_of d) f nan) (get_or (predicted_of d) g nan)
     predicted_opposite f g hf hg e = elim (leb_tells g f) [
-      | inr below ↦ inl (sym (neg-neg _) ∙ ap neg (sym (paired f g hg below.1 e)))
+      | inr below ↦ inl (sym (neg-neg _) ∙ ap neg (sym (paired f g hg below.1 e).1))
       | inl n ↦
           elim (eq-or-lt_of_le n.1) [
             | inl same ↦
                 let link = ready.good.sound.links f hf (λ z. let w : suc g ≡ 0 = sym e.0 ∙ z in absurd (omega arith)) in
                 absurd (link.other (e.0 ∙ omega (arith, same)))
-            | inr b ↦ inl (paired g f hf b (e.1, e.0))
+            | inr b ↦ inl (paired g f hf b (e.1, e.0)).1
           ]
     ]
 

@@ -5,7 +5,7 @@
 --    less one times the sum of their magnitudes; and all outflows together differ from the exact flux through the faces with one cell by at most the sum of these bounds.
 --    No cell has more than 26 terms, so that in each of these bounds 25 may be put for the multiplier.
 -- 2. An unlinked one-cell zero-gradient face keeps the wall flux as lent.
--- 3. Of two faces that are linked to each other the higher leaves prediction with the lower's flux negated, bit for bit.
+-- 3. Of two faces that are linked to each other the lower leaves prediction with a finite flux, and the higher with that negated, bit for bit.
 -- 4. Two such faces whose coefficients are equal leave with opposite fluxes, a zero's sign aside.
 use Rattle.mesh.specs.Answers.{Answer, accepted}
 use Rattle.std.specs.Prelude.{◌≡◌, List, ℕ, ◌<◌, T, length, get_or, Float}
@@ -33,7 +33,8 @@ walls_of d = record {
 
 abbrev pub PredictsOpposite : Boundary → List Float → Type 0
 PredictsOpposite t predicted =
-    (f g : ℕ) → g < t.faces → f < g → Linked t f g → get_or predicted g nan ≡ neg (get_or predicted f nan)
+    (f g : ℕ) → g < t.faces → f < g → Linked t f g
+    → T (finite (get_or predicted f nan)) × (get_or predicted g nan ≡ neg (get_or predicted f nan))
 
 abbrev pub LeavesOpposite : Boundary → List Float → Type 0
 LeavesOpposite t fluxes =

@@ -38,6 +38,7 @@ usage: oracle COMMAND
   gradients                        the lines of the program `gradients`
   pairs                            the lines of the program `pairs`
   sheets FILE...                   the port against the Rust, on sheets of the sheet program
+  fluxes FILE                      the fluxes that the Rust gives for a sheet
   bench                            times of both sides
   self-test [--seed S] [--cases N] the comparison tried on the Rust itself and on spoiled copies of it
   coverage-cases [--seed S] [--cases N] [--built]
@@ -51,8 +52,10 @@ fn main() -> ExitCode {
         Some((command, options)) => (command.as_str(), options),
         None => ("", &[][..]),
     };
-    if command == "sheets" {
-        return sheets(options);
+    match command {
+        "sheets" => return sheets(options),
+        "fluxes" => return fluxes(options),
+        _ => {}
     }
     let Some(settings) = settings(options) else {
         return refused();
@@ -90,10 +93,29 @@ fn sheets(files: &[String]) -> ExitCode {
     }
 }
 
+#[cfg(feature = "sheets")]
+fn fluxes(files: &[String]) -> ExitCode {
+    match files {
+        [file] => match sheets::fluxes(file) {
+            Some(text) => {
+                print!("{text}");
+                ExitCode::SUCCESS
+            }
+            None => ExitCode::FAILURE,
+        },
+        _ => refused(),
+    }
+}
+
 #[cfg(not(feature = "sheets"))]
 fn sheets(_: &[String]) -> ExitCode {
     eprintln!("oracle: built without the feature `sheets`");
     ExitCode::from(2)
+}
+
+#[cfg(not(feature = "sheets"))]
+fn fluxes(files: &[String]) -> ExitCode {
+    sheets(files)
 }
 
 fn refused() -> ExitCode {

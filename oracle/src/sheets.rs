@@ -15,9 +15,7 @@ pub fn run(port: &Port, files: &[String]) -> bool {
     let mut total = 0;
     let mut all = !files.is_empty();
     for file in files {
-        let read = sheet::files::contents(Path::new(file))
-            .and_then(|bytes| AnySheet::read(&bytes).map_err(|mistake| mistake.in_file(file)));
-        match read {
+        match read(file) {
             Ok(sheet) => {
                 let (entries, lent) = lent(&sheet);
                 let (compared, agreed) = compare::on(port, file, &entries, &lent);
@@ -35,6 +33,23 @@ pub fn run(port: &Port, files: &[String]) -> bool {
         if all { "none differs" } else { "not all agree" }
     );
     all
+}
+
+fn read(file: &str) -> Result<AnySheet, String> {
+    sheet::files::contents(Path::new(file))
+        .and_then(|bytes| AnySheet::read(&bytes).map_err(|mistake| mistake.in_file(file)))
+}
+
+/// The fluxes that the Rust gives for a sheet, as the sheet program marks them; none where it refuses.
+pub fn fluxes(file: &str) -> Option<String> {
+    let (_, lent) = lent(&read(file).ok()?);
+    if lent.slices.flux.is_empty() {
+        return None;
+    }
+    let fluxes = lent.slices.flux.iter().enumerate();
+    let lines = fluxes.map(|(face, flux)| format!("{face} {:016x}\n", flux.to_bits()));
+    let title = format!("# The fluxes of {file}, as the original Rust gives them.\nface flux\n");
+    Some(title + &lines.collect::<String>())
 }
 
 /// What a sheet lends, and the entries that it lends enough for.

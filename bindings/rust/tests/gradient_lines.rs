@@ -2,7 +2,7 @@
 
 mod common;
 
-use common::{answer, stored};
+use common::{answer, face, stored};
 use juvandeer::{
     Cell, CellField, Condition, Conditions, Dimension, Face, FaceField, Mesh, Refusal, Vec3,
     VectorField,
@@ -22,17 +22,6 @@ struct Base {
     /// The fields, or the conditions, are those of another mesh.
     strange_fields: bool,
     strange_conditions: bool,
-}
-
-fn face(owner: usize, neighbour: Option<usize>, numbers: [Vec3; 3]) -> Face {
-    let [center, area_vector, normal] = numbers;
-    Face {
-        owner,
-        neighbour,
-        center,
-        area_vector,
-        normal,
-    }
 }
 
 #[rustfmt::skip]

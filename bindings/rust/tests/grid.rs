@@ -1,5 +1,8 @@
 //! Meshes from points: grids of squares and of cubes, even and distorted.
 
+mod common;
+
+use common::Numbers;
 use juvandeer::{
     BuildError, CellField, Condition, Conditions, Dimension, FaceField, Mesh, Refusal, StepInput,
     Vec3, VectorField,
@@ -100,23 +103,6 @@ fn corners(
         corner[second] += b;
         corner
     })
-}
-
-/// Numbers between -0.5 and 0.5, always the same ones.
-struct Numbers(u64);
-
-impl Numbers {
-    fn next(&mut self) -> f64 {
-        self.0 = self
-            .0
-            .wrapping_mul(6364136223846793005)
-            .wrapping_add(1442695040888963407);
-        (self.0 >> 11) as f64 / (1_u64 << 53) as f64 - 0.5
-    }
-
-    fn list(&mut self, count: usize) -> Vec<f64> {
-        (0..count).map(|_| self.next()).collect()
-    }
 }
 
 fn distorted(mut draft: Draft, numbers: &mut Numbers) -> Draft {

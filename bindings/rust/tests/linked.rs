@@ -3,7 +3,7 @@
 
 mod common;
 
-use common::{base, floats};
+use common::{base, floats, Numbers};
 use juvandeer::{
     root, Cell, CellField, Conditions, Dimension, Face, FaceField, Mesh, RefusalKind, Step,
     StepInput, Vec3, VectorField,
@@ -150,25 +150,12 @@ fn the_place_of_the_cut_does_not_count() {
     }
 }
 
-/// Numbers between -0.5 and 0.5, always the same ones.
-struct Numbers(u64);
-
-impl Numbers {
-    fn next(&mut self) -> f64 {
-        self.0 = self
-            .0
-            .wrapping_mul(6364136223846793005)
-            .wrapping_add(1442695040888963407);
-        (self.0 >> 11) as f64 / (1_u64 << 53) as f64 - 0.5
-    }
-
-    fn square(&mut self) -> Square {
-        Square {
-            velocity: [0; 3].map(|_| self.next()),
-            pressure: self.next(),
-            response: 1.0 + self.next(),
-            correction: self.next(),
-        }
+fn any_square(numbers: &mut Numbers) -> Square {
+    Square {
+        velocity: [0; 3].map(|_| numbers.next()),
+        pressure: numbers.next(),
+        response: 1.0 + numbers.next(),
+        correction: numbers.next(),
     }
 }
 
@@ -226,7 +213,7 @@ fn pairs_are_opposite() {
         let share = if round % 4 == 0 { 0.0 } else { 0.2 };
         let row = row(2 + round % 5, round % 2 == 1, || share * numbers.next());
         let squares: Vec<Square> = (0..row.mesh.cell_count())
-            .map(|_| numbers.square())
+            .map(|_| any_square(&mut numbers))
             .collect();
         let step = row.step(&squares, f64::NAN);
         for &(lower, higher) in &row.links {

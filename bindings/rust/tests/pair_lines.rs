@@ -2,7 +2,7 @@
 
 mod common;
 
-use common::{answer, step_words, stored};
+use common::{answer, face, step_words, stored};
 use juvandeer::{
     Cell, CellField, Condition, Conditions, Dimension, Face, FaceField, Mesh, Refusal, Step,
     StepInput, Vec3, VectorField,
@@ -25,17 +25,6 @@ struct Base {
     correction: Vec<f64>,
     /// The wall fluxes are those of another mesh.
     strange_walls: bool,
-}
-
-fn face(owner: usize, neighbour: Option<usize>, numbers: [Vec3; 3]) -> Face {
-    let [center, area_vector, normal] = numbers;
-    Face {
-        owner,
-        neighbour,
-        center,
-        area_vector,
-        normal,
-    }
 }
 
 #[rustfmt::skip]

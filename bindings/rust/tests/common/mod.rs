@@ -31,6 +31,23 @@ pub fn answer(told: &str) -> Answer {
     ))
 }
 
+/// Numbers between -0.5 and 0.5, always the same ones.
+pub struct Numbers(pub u64);
+
+impl Numbers {
+    pub fn next(&mut self) -> f64 {
+        self.0 = self
+            .0
+            .wrapping_mul(6364136223846793005)
+            .wrapping_add(1442695040888963407);
+        (self.0 >> 11) as f64 / (1_u64 << 53) as f64 - 0.5
+    }
+
+    pub fn list(&mut self, count: usize) -> Vec<f64> {
+        (0..count).map(|_| self.next()).collect()
+    }
+}
+
 pub fn words(output: &str) -> Vec<u64> {
     let words = output.split_whitespace();
     words
@@ -94,15 +111,22 @@ pub struct Base {
     pub room: usize,
 }
 
-fn face(owner: usize, neighbour: Option<usize>, center: [f64; 2], normal: [f64; 2]) -> Face {
-    let normal = [normal[0], normal[1], 0.0];
+/// A face of its centre, area vector and normal.
+pub fn face(owner: usize, neighbour: Option<usize>, numbers: [Vec3; 3]) -> Face {
+    let [center, area_vector, normal] = numbers;
     Face {
         owner,
         neighbour,
-        center: [center[0], center[1], 0.0],
-        area_vector: normal,
+        center,
+        area_vector,
         normal,
     }
+}
+
+/// One in the plane, of unit area.
+fn flat(owner: usize, neighbour: Option<usize>, center: [f64; 2], normal: [f64; 2]) -> Face {
+    let [center, normal] = [center, normal].map(|[x, y]| [x, y, 0.0]);
+    face(owner, neighbour, [center, normal, normal])
 }
 
 pub fn base() -> Base {
@@ -113,13 +137,13 @@ pub fn base() -> Base {
     };
     Base {
         faces: vec![
-            face(0, Some(1), [1.0, 0.5], [1.0, 0.0]),
-            face(0, None, [0.0, 0.5], [-1.0, 0.0]),
-            face(1, None, [2.0, 0.5], [1.0, 0.0]),
-            face(0, None, [0.5, 0.0], [0.0, -1.0]),
-            face(0, None, [0.5, 1.0], [0.0, 1.0]),
-            face(1, None, [1.5, 0.0], [0.0, -1.0]),
-            face(1, None, [1.5, 1.0], [0.0, 1.0]),
+            flat(0, Some(1), [1.0, 0.5], [1.0, 0.0]),
+            flat(0, None, [0.0, 0.5], [-1.0, 0.0]),
+            flat(1, None, [2.0, 0.5], [1.0, 0.0]),
+            flat(0, None, [0.5, 0.0], [0.0, -1.0]),
+            flat(0, None, [0.5, 1.0], [0.0, 1.0]),
+            flat(1, None, [1.5, 0.0], [0.0, -1.0]),
+            flat(1, None, [1.5, 1.0], [0.0, 1.0]),
         ],
         cells: vec![cell(0.5), cell(1.5)],
         conditions: vec![

@@ -1,5 +1,5 @@
 -- The table: what is computed of every row holds of each, and its numbers are those of the reasons. Assumes nothing.
-use mathlib.Core.Path.{◌≡◌, refl, sym}
+use mathlib.Core.Path.{◌≡◌, refl, sym, ap, ◌∙◌}
 use mathlib.Core.List.{List, [], ◌∷◌, ◌++◌, append_assoc, map}
 use mathlib.Core.Bool.{Bool, true, false, cond, false≢true}
 use Prim.Native.Nat.{ℕ, ◌≤◌}
@@ -11,7 +11,7 @@ use Rattle.refusal.specs.declared.Reason.{Reason}
 use Rattle.refusal.specs.declared.Reason.TheVariants.{BadSize, WrongLength, OtherMesh, BadFace, BrokenChain, BadLink}
 use Rattle.refusal.specs.declared.Reason.TheVariants.{TooNear, SingularStencil, BadCoefficient, NoCondition, BadDiagonal, BadVolume, CrowdedCell, WrongDistance}
 use Rattle.refusal.specs.Numbers.{number_of, reasons}
-use Rattle.sentence.specs.Sentence.{ascii, decimal, numbers, is_among, is_known, NumbersOfReasons, phrase, opening, sentence, written, SentenceCall, Short}
+use Rattle.sentence.specs.Sentence.{ascii, decimal, numbers, is_among, is_known, NumbersOfReasons, phrase, opening, sentence, opened, written, Short}
 use Rattle.sentence.proofs.Digits.{at_most_20}
 use Rattle.sentence.proofs.Place.{needed}
 
@@ -66,6 +66,18 @@ pub opens : (k i : ℕ) → is_known k ≡ true → sentence k i ≡ opening k +
 unfolding sentence
 opens k i e = rw e (sym (append_assoc (phrase k) (ascii " at ") (decimal i ++ ascii ".")))
 
+-- what has the opening of a reason is its sentence
+its_own : (reason : Reason) (i : ℕ) (first : List ℕ) → first ≡ opening (number_of reason) → opened first i ≡ sentence (number_of reason) i
+its_own reason i first p = rw p (sym (opens (number_of reason) i (known reason)))
+
+pub told_length : (reason : Reason) (i n : ℕ) (first : List ℕ) → first ≡ opening (number_of reason)
+    → n ≡ length (opened first i) → n ≡ length (sentence (number_of reason) i)
+told_length reason i n first p l = l ∙ ap length (its_own reason i first p)
+
+pub told_left : (reason : Reason) (i : ℕ) (first old new : List ℕ) → first ≡ opening (number_of reason)
+    → new ≡ written (opened first i) old → new ≡ written (sentence (number_of reason) i) old
+told_left reason i first old new p w = w ∙ ap (λ t. written t old) (its_own reason i first p)
+
 unknown : (n : ℕ) → ((reason : Reason) → number_of reason ≡ n → ⊥) → is_known n ≡ false
 unknown n h = go (is_known n) refl
   where
@@ -74,9 +86,13 @@ unknown n h = go (is_known n) refl
     go false e = e
 
 -- none for a number that no reason has
-pub untold : (n i : ℕ) (old : List ℕ) → ((reason : Reason) → number_of reason ≡ n → ⊥) → SentenceCall n i old 0 old
+pub untold_length : (n i : ℕ) → ((reason : Reason) → number_of reason ≡ n → ⊥) → 0 ≡ length (sentence n i)
+unfolding sentence
+untold_length n i h = rw (unknown n h) refl
+
+pub untold_left : (n i : ℕ) (old : List ℕ) → ((reason : Reason) → number_of reason ≡ n → ⊥) → old ≡ written (sentence n i) old
 unfolding sentence written
-untold n i old h = let e = unknown n h in record { needs = rw e; leaves = rw (e, leb-zero (length old)) }
+untold_left n i old h = rw (unknown n h, leb-zero (length old)) refl
 
 -- how long it can be
 pub at_most_41 : Short

@@ -66,6 +66,10 @@ opening k = phrase k ++ ascii " at "
 unfoldable pub sentence : ℕ → ℕ → List ℕ
 sentence k i = cond (is_known k) (phrase k ++ (ascii " at " ++ (decimal i ++ ascii "."))) []
 
+-- any opening with an index and a full stop behind it
+abbrev pub opened : List ℕ → ℕ → List ℕ
+opened opening i = opening ++ (decimal i ++ ascii ".")
+
 -- a slice with a text at its start, where it has room for all of it
 unfoldable pub written : List ℕ → List ℕ → List ℕ
 written text old = cond (leb (length text) (length old)) (text ++ drop (length text) old) old

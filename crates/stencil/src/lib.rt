@@ -27,8 +27,11 @@ fn check_stencil(mesh: &Mesh<'_>, conditions: &Conditions<'_>, out: &StencilMut<
     let small = mesh::sizes_ok(counts) & (out.records <= mesh::LARGEST_COUNT);
     let sized = mesh.is_sized() & conditions.is_sized(counts.faces) & out.is_sized(counts.cells);
     mesh::shape(small, sized, conditions.number == counts.mesh)?;
+    // a copy is lent, so that the compiler has the mesh of the caller in registers: from memory it copies it by a
+    // function that C would have to bring
+    let copy = *mesh;
     #[tactic(auto, using(mesh::proofs::Facts::small))]
-    mesh.check_whole(conditions.codes)
+    copy.check_whole(conditions.codes)
 }
 
 // The equations of every cell as chained records, the first record of each cell, and the nine

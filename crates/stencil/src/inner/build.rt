@@ -66,6 +66,7 @@ impl<'a> Domain<'a> {
     ghost use Rattle.stencil.specs.Bundles.{lent_in, slices_in, Same, whole_of};
 
     // The stencil of the cell c after `used` records: how many there are with it.
+    #[inline(always)]
     #[tactic(auto, unfolding(crate::specs::Stencil::add_cell, crate::specs::Stencil::joined))]
     fn add_cell(&self, c: usize, used: usize, out: &mut StencilMut<'_>) -> Result<usize, Refusal>
         requires c_lt_cells { c < self.now.mesh.counts.cells }

@@ -45,6 +45,7 @@ impl Equation {
 
     // Its source as it is lent: of the equation, whose ghost field keeps that the number fits. A `From` takes the source
     // alone, with no room for that fact.
+    #[inline(always)]
     fn source_number(self) -> usize
         ensures { result ≡ source_number self.source }
     {
@@ -57,6 +58,7 @@ impl Equation {
 
     // Writes it as the record `used`: its chain goes on with the record after it. A `Building` lends its two slices
     // here, and has no part in what is written.
+    #[inline(always)]
     #[tactic(auto, unfolding(crate::specs::Building::record_numbers, crate::specs::Building::record_weights))]
     fn put(self, used: usize, equations: &mut [usize], weights: &mut [f64])
         requires equations_room { 2 * used + 1 < length equations.old }
@@ -82,6 +84,7 @@ impl<'a> Building<'a> {
     ghost use Rattle.stencil.specs.Bundles.{equation_in, building_in, course_of, SameRecords};
 
     // Appends an equation, if there is a record left for it.
+    #[inline(always)]
     #[tactic(auto, unfolding(crate::specs::Building::push))]
     pub(crate) fn append(&mut self, e: Equation) -> Answer
         ensures appended { course_of result self.new ≡ push self.old.records (equation_in e) (building_in self.old) }
@@ -96,6 +99,7 @@ impl<'a> Building<'a> {
     }
 
     // The last record of a cell's chain ends it, where the cell has any: those used before it were `old`.
+    #[inline(always)]
     #[tactic(auto, unfolding(crate::specs::Stencil::ended_at))]
     pub(crate) fn end_chain(&mut self, old: usize)
         ensures ended { let b = building_in self.old in
@@ -108,6 +112,7 @@ impl<'a> Building<'a> {
     }
 
     // The equation of a difference, weighted by the inverse square of its distance.
+    #[inline(always)]
     #[tactic(auto, unfolding(crate::specs::Cell::weighted))]
     fn add_difference(&mut self, f: usize, source: Source, offset: Vec3, value: f64) -> Answer
         requires { source_number source < 2 ^ 64 }
@@ -129,6 +134,7 @@ impl<'a> Building<'a> {
     }
 
     // What the face f gives, but for a closing normal.
+    #[inline(always)]
     #[tactic(auto, unfolding(crate::specs::Cell::offered))]
     pub(crate) fn add_offer(&mut self, f: usize, offer: Offer) -> Answer
         requires { Lendable offer }
@@ -148,6 +154,7 @@ impl<'a> Building<'a> {
     }
 
     // A zero-gradient face's normal as an equation with coefficient 0, if it has a direction.
+    #[inline(always)]
     #[tactic(auto, unfolding(crate::specs::Cell::add_normal))]
     pub(crate) fn add_normal(&mut self, normal: Vec3) -> Answer
         ensures added { course_of result self.new ≡ add_normal self.old.records normal (building_in self.old) }

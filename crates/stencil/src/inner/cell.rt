@@ -45,6 +45,7 @@ pub(crate) struct Cell<'a> {
 }
 
 // What a face with one cell and no link gives, `away` from that.
+#[inline(always)]
 #[tactic(auto, unfolding(crate::specs::Cell::wall))]
 fn at_wall(k: Condition, away: Vec3) -> Offer
     ensures offered { result ≡ wall k away }
@@ -67,6 +68,7 @@ impl<'a> Cell<'a> {
     ghost use Rattle.stencil.specs.Bundles.{lent_in, building_in, SameRecords, course_of, finish_of};
 
     // The difference to the centre of another cell.
+    #[inline(always)]
     fn to_cell(&self, other: usize) -> Offer
         requires { other < self.now.domain.mesh.counts.cells }
         ensures offered { result ≡ to_cell self.now.domain.mesh.places.now self.now.c other }
@@ -82,6 +84,7 @@ impl<'a> Cell<'a> {
     }
 
     // What the face f gives the cell: by its neighbour, else by its link, else by its condition.
+    #[inline(always)]
     #[tactic(auto, unfolding(crate::specs::Cell::offer))]
     fn offer_at(&self, f: usize) -> Offer
         requires { f < self.now.domain.mesh.counts.faces }
@@ -108,6 +111,7 @@ impl<'a> Cell<'a> {
     }
 
     // A zero-gradient face's normal.
+    #[inline(always)]
     #[tactic(auto, unfolding(crate::specs::Cell::add_closing, crate::specs::Cell::closing))]
     fn add_closing(&self, f: usize, b: &mut Building<'_>) -> Answer
         requires { f < self.now.domain.mesh.counts.faces }
@@ -122,6 +126,7 @@ impl<'a> Cell<'a> {
     }
 
     // The faces of the cell, in the order of their chain.
+    #[inline(always)]
     #[tactic(auto, using(crate::proofs::Walks::sound_in))]
     fn faces(&self) -> Records<'a>
         ensures ended { Sound result.records.now result.next }
@@ -136,6 +141,7 @@ impl<'a> Cell<'a> {
     }
 
     // A pass over them.
+    #[inline(always)]
     #[tactic(auto, using(crate::proofs::Walks::first_below, crate::proofs::Walks::walk_bounded), unfolding(crate::specs::Cell::add_face))]
     fn add_faces(&self, phase: Phase, b: &mut Building<'_>) -> Answer
         ensures added { let l = lent_in self.now.domain in
@@ -152,6 +158,7 @@ impl<'a> Cell<'a> {
     }
 
     // A cell of the second ring, unless it is too near or not at a finite distance.
+    #[inline(always)]
     #[tactic(auto, unfolding(crate::specs::Cell::add_ring))]
     fn add_ring_cell(&self, d: usize, b: &mut Building<'_>) -> Answer
         requires { d < self.now.domain.mesh.counts.cells }
@@ -177,6 +184,7 @@ impl<'a> Cell<'a> {
 
     // The second ring of the cell, in rising order. The next cell of it is searched for and not counted, so the loop is
     // a `while`.
+    #[inline(always)]
     #[tactic(auto, using(crate::proofs::inner::build::Laws::web_known, crate::proofs::inner::ring::Laws::all_ring), unfolding(crate::specs::Cell::extend))]
     fn add_ring(&self, b: &mut Building<'_>) -> Answer
         ensures added { let l = lent_in self.now.domain in
@@ -198,6 +206,7 @@ impl<'a> Cell<'a> {
     }
 
     // The inverse of the normal matrix, where it has one.
+    #[inline(always)]
     fn inverse_of(&self, b: &Building<'_>) -> Option<Normal>
         ensures { result ≡ inverse_of (lent_in self.now.domain) (building_in b.now) }
     {
@@ -205,6 +214,7 @@ impl<'a> Cell<'a> {
     }
 
     // Closed by the zero-gradient faces, the matrix has an inverse or the stencil is singular.
+    #[inline(always)]
     #[tactic(auto, unfolding(crate::specs::Cell::finish, crate::specs::Cell::finished, crate::specs::Cell::close))]
     fn finish(&self, b: &mut Building<'_>) -> Result<Normal, Refusal>
         ensures finished { let l = lent_in self.now.domain in
@@ -216,6 +226,7 @@ impl<'a> Cell<'a> {
     }
 
     // In 2D the second ring comes first.
+    #[inline(always)]
     #[tactic(auto, unfolding(crate::specs::Cell::widen, crate::specs::Cell::widened))]
     fn widen(&self, b: &mut Building<'_>) -> Result<Normal, Refusal>
         ensures finished { let l = lent_in self.now.domain in
@@ -230,6 +241,7 @@ impl<'a> Cell<'a> {
     }
 
     // The equations of the cell, and the inverse of its normal matrix.
+    #[inline(always)]
     #[tactic(auto, unfolding(crate::specs::Cell::cell_stencil, crate::specs::Cell::gathered, crate::specs::Cell::gather))]
     pub(crate) fn stencil(&self, b: &mut Building<'_>) -> Result<Normal, Refusal>
         ensures finished { let l = lent_in self.now.domain in

@@ -7,7 +7,7 @@ use native.Mathlib.Nat.{eq-or-lt_of_le}
 use native.Mathlib.Omega.{arith}
 use lib.Dec.{T}
 use lib.ListN.{length, get_or}
-use lib.Ieee.{nan, binary64, fits, neg}
+use lib.Ieee.{Float, nan, binary64, fits, neg}
 use lib.Ieee.Scale.{finite}
 use borrow.Author.Tests.{not-false}
 use Rattle.std.proofs.lemmas.Bool.Decides.{leb_tells}
@@ -17,6 +17,7 @@ use Rattle.binary64.proofs.Opposites.{neg-neg}
 use Rattle.mesh.specs.Answers.{or_else, accepted}
 use Rattle.chain.specs.Search.{lowest_where}
 use Rattle.mesh.proofs.Facts.{both_accepted}
+use Rattle.mesh.proofs.Values.{value_at}
 use Rattle.chain.proofs.Search.{none_below}
 use Rattle.numerics.specs.Outflow.{faces_of}
 use Rattle.balance.proofs.Closes.{balances}
@@ -24,13 +25,14 @@ use Rattle.balance.proofs.Few.{quoted}
 use Rattle.balance.specs.Balance.{Balanced}
 use Rattle.linked.specs.Linked.{linked_answer}
 use Rattle.linked.proofs.Pairs.{negated}
-use Rattle.corrector.specs.Correction.{correction_answer}
+use Rattle.corrector.specs.Correction.{corrected_flux_at, correction_answer}
 use Rattle.corrector.specs.Metrics.{metrics_of, metrics_answer}
 use Rattle.corrector.specs.Promise.{Linked, KeepsFree, Promise, boundary_of}
 use Rattle.corrector.proofs.Promised.{promised}
 use Rattle.scheme.specs.Step.{Inputs, Lendable, unlinked_of, links_of, predicted_of, correcting_of, fluxes_of, outflows_of, spilled, endless, finite_answer, work_answer}
 use Rattle.scheme.specs.Demand.{walls_of, PredictsOpposite, LeavesOpposite, DemandThree}
-use Rattle.scheme.proofs.Parts.{unlinked_size, predicted_size, fluxes_size, outflows_size, wall_kept, correctable, flows, work_is, stencil_part, prediction_part, coefficients_part, links_part, correction_part, measured_part}
+use Rattle.scheme.proofs.Fitting.{value_fits}
+use Rattle.scheme.proofs.Parts.{unlinked_size, predicted_size, fluxes_size, outflows_size, wall_kept, below, correctable, flows, work_is, stencil_part, prediction_part, coefficients_part, links_part, correction_part, measured_part}
 
 nothing_spilled : (f : Option ℕ) → spilled f ≡ accepted → f ≡ None
 unfolding spilled
@@ -44,8 +46,7 @@ module _ (d : Inputs) (ready : Lendable d) where
   abbrev cells : ℕ
   cells = d.mesh.counts.cells
 
-  -- every flux is a number of binary64, as the slice that holds it says
-  module _ (fit : (f : ℕ) → f < length (fluxes_of d) → T (fits binary64 (get_or (fluxes_of d) f nan))) (ok : work_answer d ≡ accepted) where
+  module _ (ok : work_answer d ≡ accepted) where
     on_from_links : or_else (links_part d ready) (or_else (correction_part d ready) (measured_part d ready (outflows_of d))) ≡ accepted
     on_from_links =
         let one = both_accepted (stencil_part d ready) _ (sym (work_is d ready) ∙ ok) in
@@ -98,17 +99,35 @@ module _ (d : Inputs) (ready : Lendable d) where
     opposite : LeavesOpposite (walls_of d) (fluxes_of d)
     opposite f g hf hg e k = promise.opposite f g (above f hf) (above g hg) e (predicted_opposite f g hf hg e) k
 
+    -- every flux is a number of binary64, where the wall fluxes are
+    fluxes_fit : ((f : ℕ) → f < length d.walls.values → T (fits binary64 (get_or d.walls.values f nan)))
+        → (f : ℕ) → f < length (fluxes_of d) → T (fits binary64 (get_or (fluxes_of d) f nan))
+    fluxes_fit fit f l =
+        let h : f < length (predicted_of d) = omega (arith, l, fluxes_size d ready, predicted_size d ready) in
+        let b = below d ready f h in
+        let w = value_at (corrected_flux_at (correcting_of d)) (length (predicted_of d)) f corrected_ok h in
+        let is : Float → Type 0 = λ x. T (fits binary64 x) in
+        let wall = fit f (omega (arith, b, ready.walls)) in
+        subst is (sym w.2) (value_fits (correcting_of d) f (λ e free. subst is (sym (wall_kept d ready f b e free)) wall) w.0 w.1)
+
+  -- every flux is a number of binary64, as the slice that holds it says
+  module _ (fit : (f : ℕ) → f < length (fluxes_of d) → T (fits binary64 (get_or (fluxes_of d) f nan))) (ok : work_answer d ≡ accepted) where
     balanced : Balanced (faces_of d.mesh.adjacency (fluxes_of d)) faces (outflows_of d)
-    balanced = subst (λ (n : ℕ). Balanced (faces_of d.mesh.adjacency (fluxes_of d)) n (outflows_of d)) (fluxes_size d ready) (balances cells d.mesh.adjacency (fluxes_of d) (flows d ready) fit finite_outflows)
+    balanced = subst (λ (n : ℕ). Balanced (faces_of d.mesh.adjacency (fluxes_of d)) n (outflows_of d)) (fluxes_size d ready) (balances cells d.mesh.adjacency (fluxes_of d) (flows d ready) fit (finite_outflows ok))
 
     pub demanded : DemandThree d (predicted_of d) (fluxes_of d) (outflows_of d)
     demanded = record {
       fluxes = fluxes_size d ready;
       outflows = outflows_size d ready;
-      finite_outflows = finite_outflows;
+      finite_outflows = finite_outflows ok;
       balanced = balanced;
       quotable = quoted cells d.mesh.adjacency (fluxes_of d) (outflows_of d) faces (flows d ready) ready.good.sound.few (fluxes_size d ready) (outflows_size d ready) balanced;
-      kept = kept;
-      paired = paired;
-      opposite = opposite;
+      kept = kept ok;
+      paired = paired ok;
+      opposite = opposite ok;
     }
+
+  -- every wall flux is a number of binary64, as the slice that lends it says
+  pub demanded_of_walls : ((f : ℕ) → f < length d.walls.values → T (fits binary64 (get_or d.walls.values f nan))) → work_answer d ≡ accepted
+      → DemandThree d (predicted_of d) (fluxes_of d) (outflows_of d)
+  demanded_of_walls fit ok = demanded (fluxes_fit ok fit) ok

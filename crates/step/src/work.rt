@@ -51,6 +51,14 @@ fn finite_outflows(outflow: &[f64]) -> Answer
     }
 }
 
+// The slice as it is lent: each number in it is one of binary64, as its type says.
+fn numbers(values: &[f64]) -> &[f64]
+    ensures same { result ≡ values.entry }
+    ensures numbers { Binary64 values.now }
+{
+    values
+}
+
 // What is written is lent before the checks: that it has its lengths is asked by each method, as in `stencil`.
 impl<'a> Work<'a> {
     ghost use Rattle.numerics.specs.Bundles.{slices_of};
@@ -109,6 +117,7 @@ impl<'a> Work<'a> {
             IfAccepted result ((gradient.new ≡ gradient_of d) × (predicted.new ≡ unlinked_of d)) }
         ensures begun { let d = inputs_in self.now in
             IfAccepted result (Begun (grid_of d) d.responses.values coefficients.new) }
+        ensures walls { Binary64 self.now.fields.walls.values.now }
     {
         let slope = Slope {
             stencil: *stencil,
@@ -118,7 +127,7 @@ impl<'a> Work<'a> {
             coupling: self.coupling(),
             slope,
             velocity: self.fields.velocity.values,
-            walls: self.fields.walls.values,
+            walls: numbers(self.fields.walls.values),
         };
         momentum.rhie_chow_predicted_flux(coefficients, gradient, predicted)
     }
@@ -216,6 +225,7 @@ impl<'a> Work<'a> {
         ensures contents { let d = inputs_in self.now in
             IfAccepted result (outputs_of out.new ≡ results d) }
         ensures numbers { IfAccepted result (Binary64 out.new.flux.now) }
+        ensures walls { IfAccepted result (Binary64 self.now.fields.walls.values.now) }
         ensures fit { OutputsFit self.now.mesh.counts self.now.records (outputs_of out.new) }
         ensures same { Same out.old out.new }
     {

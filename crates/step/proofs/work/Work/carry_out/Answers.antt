@@ -2,7 +2,7 @@ use mathlib.Core.Path.{sym, ◌∙◌}
 use Rattle.mesh.specs.Pass.{if_refused}
 use Rattle.step.specs.Bundles.{outputs_of}
 use Rattle.step.specs.Work.{inputs_in}
-use Rattle.step.proofs.Handed.{cleared_alike, delivered}
+use Rattle.step.proofs.Handed.{cleared_alike, delivered_of_walls}
 use Rattle.step.proofs.work.Work.carry_out.Goals as goal
 
 pub returns-in-Err-clause-contents : goal.returns-in-Err-clause-contents
@@ -18,4 +18,5 @@ returns-clause-demanded c =
     let w = c.args.self.now in
     let d = inputs_in w in
     let was = c.in_default.is in
-    λ _. delivered d w.lendable (outputs_of c.run.new.out) (c.run.ensures.numbers was) (c.run.ensures.contents was) (sym c.run.ensures.answer ∙ was)
+    let walls = c.run.ensures.walls was in
+    λ _. delivered_of_walls d w.lendable (outputs_of c.run.new.out) (λ f _. walls f) (c.run.ensures.contents was) (sym c.run.ensures.answer ∙ was)

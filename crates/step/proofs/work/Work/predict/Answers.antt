@@ -22,7 +22,7 @@ returns-clause-contents c =
     let flow_by : List Float → Flow = λ g. flow d.velocity.values d.pressure.values g d.responses.values in
     let predicted : List Float → List Float = λ g. predicted_fluxes (grid_of d) (flow_by g) d.walls.values in
     let slopes = c.rhie_chow_predicted_flux.ensures.slopes in
-    let contents = rw (c.coupling.ensures.grid, c.coupling.ensures.responses) at c.rhie_chow_predicted_flux.ensures.contents in
+    let contents = rw (c.coupling.ensures.grid, c.coupling.ensures.responses, c.numbers.ensures.same) at c.rhie_chow_predicted_flux.ensures.contents in
     λ ok. (slopes ∙ handed_out_lem _ _ _ ok ∙ g, contents ∙ handed_out_lem _ _ _ ok ∙ ap predicted g)
 
 pub returns-clause-begun : goal.returns-clause-begun
@@ -31,6 +31,9 @@ returns-clause-begun c =
     let d = inputs_in w in
     let long = c.requires.long.0 ∙ sym w.lendable.walls in
     let e = c.rhie_chow_predicted_flux.ensures in
-    let answer = rw (c.coupling.ensures.grid, c.coupling.ensures.responses) at e.answer in
-    let own = rw (c.coupling.ensures.grid, c.coupling.ensures.responses) at e.coefficients in
+    let answer = rw (c.coupling.ensures.grid, c.coupling.ensures.responses, c.numbers.ensures.same) at e.answer in
+    let own = rw (c.coupling.ensures.grid, c.coupling.ensures.responses, c.numbers.ensures.same) at e.coefficients in
     λ ok. begun (grid_of d) _ d.walls.values _ (sym answer ∙ ok) (c.rhie_chow_predicted_flux.auto.internal ∙ long) (own long ok)
+
+pub returns-clause-walls : goal.returns-clause-walls
+returns-clause-walls c = c.numbers.ensures.numbers

@@ -3,7 +3,7 @@
 // pattern and a newline, each pattern of 16 lower-case hex digits.
 #![tactic(auto)]
 
-ghost use Rattle.std.specs.Prelude.{◌+◌, ◌^◌, ◌≤◌, ◌<◌};
+ghost use Rattle.std.specs.Prelude.{◌+◌, ◌^◌, ◌≤◌, ◌<◌, length, IfOk};
 
 use line::{LENGTH, Pair};
 use std::fmt;
@@ -64,11 +64,24 @@ impl Tally {
     }
 }
 
-// Reads the next line into `text`, or as much of it as a line may have. It is empty at the input's end.
-fn read_line(input: &mut impl BufRead, text: &mut Vec<u8>) -> io::Result<()> {
-    text.clear();
-    input.take(LENGTH as u64).read_until(b'\n', text)?;
-    Ok(())
+// Reads the next line into `text`, or as much of it as a line may have, and answers what was read: nothing
+// at the input's end. What is read of a line that is too short may go on past its newline. std's `read_until`
+// would ask a pipe for each byte.
+fn read_line<'a>(input: &mut impl BufRead, text: &'a mut [u8; LENGTH]) -> io::Result<&'a [u8]>
+    ensures { IfOk result (λ line. length line.now ≤ 34) }
+{
+    let mut n = 0;
+    // The look ahead has a file read in pieces longer than a line.
+    if !input.fill_buf()?.is_empty() {
+        while n < LENGTH && !text[..n].contains(&b'\n') {
+            let more = input.read(&mut text[n..])?;
+            if more == 0 {
+                break;
+            }
+            n += more;
+        }
+    }
+    Ok(&text[..n])
 }
 
 // At the list's end it writes the tally, and at a broken line that line's number and no tally. A proved
@@ -76,17 +89,17 @@ fn read_line(input: &mut impl BufRead, text: &mut Vec<u8>) -> io::Result<()> {
 // run reaches.
 fn main(rt: HostRuntime) -> io::Result<()> {
     let mut input = rt.reader();
-    let mut text = Vec::new(rt.alloc());
+    let mut text = [0; LENGTH];
     let mut tally = Tally {
         agreed: 0,
         differ: 0,
     };
     for line in 1..u64::MAX {
-        read_line(&mut input, &mut text)?;
+        let text = read_line(&mut input, &mut text)?;
         if text.is_empty() {
             return println!(rt; "{tally}");
         }
-        let Some(pair) = Pair::of(&text) else {
+        let Some(pair) = Pair::of(text) else {
             return println!(rt;
                 "line {line}: broken, two patterns of 16 lower-case hex digits expected"
             );

@@ -1,8 +1,8 @@
 // The limits of the counts, each slice as long as its count says, and a chain of the most records.
-use crate::case::Case;
+ghost use Rattle.std.specs.Prelude.{◌≡◌, take};
+
 use crate::tell;
-use mesh::Counts;
-use std::alloc::{AllocError, Global};
+use mesh::{Conditions, Counts, Mesh};
 use std::io;
 
 // So many cells, faces, face records and neighbour records.
@@ -28,12 +28,24 @@ const ENDS: &[(&str, usize)] = &[
     ("chain of 65535 face records and a missing one", 65536),
 ];
 
-// A mesh of these counts in zeros: every face has the owner 0 and no neighbour, and every chain is empty.
-fn zeros(alloc: Global, counts: [u32; 4]) -> Result<Case, AllocError> {
+// The first n numbers of a slice, or all where it has no more.
+fn part<T>(s: &[T], n: usize) -> &[T]
+    ensures { result.now ≡ take n s.now }
+{
+    if n <= s.len() { &s[..n] } else { s }
+}
+
+// A mesh of these counts with its conditions, in parts of zeros: every face has the owner 0 and no neighbour, and
+// every chain is empty.
+fn zeros<'a>(
+    numbers: &'a [usize],
+    floats: &'a [f64],
+    counts: [u32; 4],
+) -> (Mesh<'a>, Conditions<'a>) {
     let [cells, faces, facings, borderings] = counts;
     let (cells, faces) = (cells as usize, faces as usize);
     let (facings, borderings) = (facings as usize, borderings as usize);
-    Ok(Case {
+    let mesh = Mesh {
         counts: Counts {
             mesh: 7,
             dimension: 3,
@@ -42,42 +54,55 @@ fn zeros(alloc: Global, counts: [u32; 4]) -> Result<Case, AllocError> {
             facings,
             borderings,
         },
-        adjacency: vec![in alloc; 0; 2 * faces]?,
-        geometry: vec![in alloc; 0.0; 11 * faces]?,
-        heads: vec![in alloc; 0; 2 * cells]?,
-        places: vec![in alloc; 0.0; 4 * cells]?,
-        facing: vec![in alloc; 0; 2 * facings]?,
-        bordering: vec![in alloc; 0; 2 * borderings]?,
+        adjacency: part(numbers, 2 * faces),
+        geometry: part(floats, 11 * faces),
+        heads: part(numbers, 2 * cells),
+        places: part(floats, 4 * cells),
+        facing: part(numbers, 2 * facings),
+        bordering: part(numbers, 2 * borderings),
+    };
+    let conditions = Conditions {
         number: 7,
-        codes: vec![in alloc; 0; 2 * faces]?,
-        values: vec![in alloc; 0.0; 4 * faces]?,
-    })
+        codes: part(numbers, 2 * faces),
+        values: part(floats, 4 * faces),
+    };
+    (mesh, conditions)
 }
 
-pub(crate) fn counts<R: Print + AllocGlobal>(rt: &R) -> io::Result<()> {
+// Writes the line of each case, which lends parts of the same zeros.
+fn lend(rt: &impl Print, numbers: &[usize], floats: &[f64]) -> io::Result<()> {
     for (name, counts) in COUNTS {
-        tell(rt, name, zeros(rt.alloc(), *counts)?.check())?;
+        let (mesh, conditions) = zeros(numbers, floats, *counts);
+        tell(rt, name, mesh.check(&conditions))?;
     }
     Ok(())
 }
 
-// The records of face 0, each but the last chained to the next.
-fn chain(alloc: Global, end: usize) -> Result<Vec<usize>, AllocError> {
-    let mut records = Vec::new(alloc);
-    for next in 2..=65535 {
-        records.extend_from_slice(&[0, next])?;
+// Zeros for the largest counts, as constants: a run holds only those of them that a check reads.
+pub(crate) fn counts(rt: &impl Print) -> io::Result<()> {
+    lend(rt, &[0; 131072], &[0.0; 720896])
+}
+
+// Chains each record of face 0 to the next.
+fn chain(records: &mut [usize; 131070]) {
+    for r in 1..65535 {
+        records[2 * r - 1] = r + 1;
     }
-    records.extend_from_slice(&[0, end])?;
-    Ok(records)
 }
 
 // A cell with a face, whose chain of faces starts at record 1.
-pub(crate) fn chains<R: Print + AllocGlobal>(rt: &R) -> io::Result<()> {
+pub(crate) fn chains(rt: &impl Print) -> io::Result<()> {
+    let (mesh, conditions) = zeros(&[0; 2], &[0.0; 11], [1, 1, 65535, 0]);
+    let mut records = [0; 131070];
+    chain(&mut records);
     for (name, end) in ENDS {
-        let mut case = zeros(rt.alloc(), [1, 1, 65535, 0])?;
-        case.heads = vec![in rt.alloc(); 1, 0]?;
-        case.facing = chain(rt.alloc(), *end)?;
-        tell(rt, name, case.check())?;
+        records[131069] = *end;
+        let chained = Mesh {
+            heads: &[1, 0],
+            facing: &records,
+            ..mesh
+        };
+        tell(rt, name, chained.check(&conditions))?;
     }
     Ok(())
 }

@@ -1,4 +1,6 @@
 // What the list says of a call's answer, and of what the outputs hold after it.
+ghost use Rattle.std.specs.Prelude.{◌≤◌, IfOk, vec_len};
+
 use crate::fault::{Broken, Fault};
 use crate::words::Words;
 use mesh::Answer;
@@ -99,7 +101,9 @@ impl<'a> Words<'a> {
 
 impl<'a> Outputs<'a> {
     // The next output, each of its numbers `fill`.
-    pub fn output<T: Word>(&mut self, alloc: Global, fill: T) -> Result<Output<'a, T>, Fault> {
+    pub fn output<T: Word>(&mut self, alloc: Global, fill: T) -> Result<Output<'a, T>, Fault>
+        ensures { IfOk result (λ output. vec_len output.values ≤ 1024) }
+    {
         let n = self.lengths.number()?;
         if n > LONGEST {
             return Err(Fault::Broken(self.listed.broken()));

@@ -1,4 +1,6 @@
 // The calls of a gradient through `records`, which hands out a record a cell.
+ghost use Rattle.std.specs.Prelude.{◌*◌, ◌≤◌};
+
 use crate::calls::Setting;
 use crate::fault::Fault;
 use crate::outputs::LONGEST;
@@ -10,7 +12,9 @@ use vector::Vec3;
 
 // How many records are lent where the list has an output of n numbers: a third as many, and none
 // where that is not whole, since no mesh has that length.
-fn records_of(n: usize) -> usize {
+fn records_of(n: usize) -> usize
+    ensures { 3 * result ≤ n }
+{
     if n % 3 == 0 { n / 3 } else { 0 }
 }
 

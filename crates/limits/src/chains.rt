@@ -202,8 +202,8 @@ const LOWEST: &[(&str, &[Change])] = &[
 pub(crate) fn all(rt: &impl Print, row: &Case) -> io::Result<()> {
     run(rt, row, FACE_RECORDS)?;
     run(rt, row, FACE_CIRCLES)?;
-    run(rt, &row.with(FACE_CHAIN)?, FACE_CHAINS)?;
+    run(rt, &row.with(FACE_CHAIN), FACE_CHAINS)?;
     run(rt, row, NEIGHBOUR_RECORDS)?;
-    run(rt, &row.with(NEIGHBOUR_CHAIN)?, NEIGHBOUR_CHAINS)?;
+    run(rt, &row.with(NEIGHBOUR_CHAIN), NEIGHBOUR_CHAINS)?;
     run(rt, row, LOWEST)
 }

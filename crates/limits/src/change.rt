@@ -2,7 +2,7 @@
 ghost use Rattle.std.specs.Prelude.{◌<◌};
 
 use crate::case::Case;
-use std::alloc::AllocError;
+use crate::lent::Lent;
 
 // A lent slice.
 #[derive(Clone, Copy)]
@@ -59,43 +59,34 @@ pub enum Change {
 
 impl Part {
     // Lends so many numbers of a slice, with zeros past its end.
-    fn resize(self, case: &mut Case, n: usize) -> Result<(), AllocError> {
+    fn resize(self, case: &mut Case, n: usize) {
         match self {
-            Part::Adjacency => case.adjacency.resize(n, 0),
-            Part::Geometry => case.geometry.resize(n, 0.0),
-            Part::Heads => case.heads.resize(n, 0),
-            Part::Places => case.places.resize(n, 0.0),
-            Part::Facing => case.facing.resize(n, 0),
-            Part::Bordering => case.bordering.resize(n, 0),
-            Part::Codes => case.codes.resize(n, 0),
-            Part::Values => case.values.resize(n, 0.0),
+            Part::Adjacency => case.adjacency.resize(n),
+            Part::Geometry => case.geometry.resize(n),
+            Part::Heads => case.heads.resize(n),
+            Part::Places => case.places.resize(n),
+            Part::Facing => case.facing.resize(n),
+            Part::Bordering => case.bordering.resize(n),
+            Part::Codes => case.codes.resize(n),
+            Part::Values => case.values.resize(n),
         }
     }
 }
 
-// Makes number `member` of the pair i of a slice x.
-fn set(pairs: &mut [usize], i: u8, member: usize, x: usize)
+// Makes number `member` of the pair i x.
+fn set<const CAP: usize>(pairs: &mut Lent<usize, CAP>, i: u8, member: usize, x: usize)
     requires { member < 2 }
 {
-    if let Some(number) = pairs.get_mut(2 * usize::from(i) + member) {
-        *number = x;
-    }
-}
-
-// Makes number i of a slice x.
-fn place(floats: &mut [f64], i: usize, x: f64) {
-    if let Some(number) = floats.get_mut(i) {
-        *number = x;
-    }
+    pairs.put(2 * usize::from(i) + member, x);
 }
 
 impl Change {
-    pub(crate) fn apply(self, case: &mut Case) -> Result<(), AllocError> {
+    pub(crate) fn apply(self, case: &mut Case) {
         match self {
             Change::Dimension(n) => case.counts.dimension = n,
             Change::Mesh(n) => case.counts.mesh = n,
             Change::Number(n) => case.number = n,
-            Change::Length(part, n) => part.resize(case, n)?,
+            Change::Length(part, n) => part.resize(case, n),
             Change::Owner(face, cell) => set(&mut case.adjacency, face, 0, cell),
             Change::Neighbour(face, stored) => set(&mut case.adjacency, face, 1, stored),
             Change::Code(face, code) => set(&mut case.codes, face, 0, code),
@@ -116,11 +107,10 @@ impl Change {
             Change::NextNeighbour(r, next) => {
                 set(&mut case.bordering, r.saturating_sub(1), 1, next)
             }
-            Change::FaceCenter(face, x) => place(&mut case.geometry, 11 * usize::from(face), x),
-            Change::CellCenter(cell, x) => place(&mut case.places, 4 * usize::from(cell), x),
-            Change::Own(face, x) => place(&mut case.geometry, 11 * usize::from(face) + 9, x),
-            Change::Other(face, x) => place(&mut case.geometry, 11 * usize::from(face) + 10, x),
+            Change::FaceCenter(face, x) => case.geometry.put(11 * usize::from(face), x),
+            Change::CellCenter(cell, x) => case.places.put(4 * usize::from(cell), x),
+            Change::Own(face, x) => case.geometry.put(11 * usize::from(face) + 9, x),
+            Change::Other(face, x) => case.geometry.put(11 * usize::from(face) + 10, x),
         }
-        Ok(())
     }
 }

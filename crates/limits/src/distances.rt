@@ -191,7 +191,7 @@ const LOWEST: &[(&str, &[Change])] = &[
 ];
 
 pub(crate) fn all(rt: &impl Print, row: &Case) -> io::Result<()> {
-    let moved = row.with(FACE_4)?;
+    let moved = row.with(FACE_4);
     run(rt, row, ONE_PLACE)?;
     run(rt, row, CELL_1)?;
     run(rt, &moved, UNLINKED)?;

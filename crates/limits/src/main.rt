@@ -15,6 +15,7 @@ mod change;
 mod distances;
 mod faces;
 mod large;
+mod lent;
 mod links;
 mod shape;
 
@@ -40,14 +41,14 @@ fn tell(rt: &impl Print, name: &str, answer: Answer) -> io::Result<()> {
 // Writes the line of each case: its name, and the changes that it makes to the base.
 fn run(rt: &impl Print, base: &Case, cases: &[(&str, &[Change])]) -> io::Result<()> {
     for (name, changes) in cases {
-        tell(rt, name, base.with(changes)?.check())?;
+        tell(rt, name, base.with(changes).check())?;
     }
     Ok(())
 }
 
 fn main(rt: HostRuntime) -> io::Result<()> {
-    let pair = case::pair(rt.alloc())?;
-    let row = case::row(rt.alloc())?;
+    let pair = case::pair();
+    let row = case::row();
     large::counts(&rt)?;
     shape::all(&rt, &pair)?;
     faces::all(&rt, &pair, &row)?;

@@ -5,12 +5,30 @@
 use crate::change::Part;
 use mesh::{Answer, Conditions, Counts, Faces, Field};
 use simple::Corrections;
-use std::alloc::{AllocError, Global};
+
+// The most numbers that a flux has in any case: one more than the mesh has faces.
+const ROOM: usize = 8;
+
+// A flux, which has another length in some case: the first `length` of these numbers.
+#[derive(Clone, Copy)]
+pub struct Flux {
+    pub numbers: [f64; ROOM],
+    pub length: usize,
+}
+
+impl Flux {
+    pub(crate) fn as_slice(&self) -> &[f64] {
+        &self.numbers[..self.length.min(ROOM)]
+    }
+
+    pub(crate) fn as_mut_slice(&mut self) -> &mut [f64] {
+        &mut self.numbers[..self.length.min(ROOM)]
+    }
+}
 
 // The mesh and the slices, each with its mesh number beside it. The flux is the predicted flux before the
-// call, and the corrected flux after it; it is a `Vec`, since it has another length in some case, and the others
-// are arrays.
-#[derive(Drop)]
+// call, and the corrected flux after it.
+#[derive(Clone, Copy)]
 pub struct Case {
     pub counts: Counts,
     pub adjacency: [usize; 14],
@@ -21,7 +39,7 @@ pub struct Case {
     pub correction: u64,
     pub corrections: [f64; 2],
     pub prediction: u64,
-    pub flux: Vec<f64>,
+    pub flux: Flux,
 }
 
 // The number of the mesh.
@@ -39,8 +57,8 @@ const VALUES: [f64; 28] = [
 ];
 
 // The case that is accepted.
-pub(crate) fn base(alloc: Global) -> Result<Case, AllocError> {
-    Ok(Case {
+pub(crate) fn base() -> Case {
+    Case {
         counts: Counts {
             mesh: MESH,
             dimension: 2,
@@ -57,8 +75,11 @@ pub(crate) fn base(alloc: Global) -> Result<Case, AllocError> {
         correction: MESH,
         corrections: [1.0, 3.0],
         prediction: MESH,
-        flux: vec![in alloc; 2.0, -1.0, 1.0, 0.0, 0.1, 0.2, -0.3]?,
-    })
+        flux: Flux {
+            numbers: [2.0, -1.0, 1.0, 0.0, 0.1, 0.2, -0.3, 1.0],
+            length: 7,
+        },
+    }
 }
 
 impl Case {
@@ -87,7 +108,7 @@ impl Case {
             &conditions,
             &fields,
             self.prediction,
-            &mut self.flux,
+            self.flux.as_mut_slice(),
         )
     }
 
@@ -104,7 +125,7 @@ impl Case {
         match part {
             Part::Coefficients => Some(&mut self.coefficients),
             Part::Correction => Some(&mut self.corrections),
-            Part::Predicted => Some(&mut self.flux),
+            Part::Predicted => Some(self.flux.as_mut_slice()),
             _ => None,
         }
     }

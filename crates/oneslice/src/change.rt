@@ -1,6 +1,5 @@
 // What the cases change in the base.
 use crate::case::Case;
-use std::alloc::AllocError;
 
 // A slice that a case changes.
 #[derive(Clone, Copy)]
@@ -30,11 +29,11 @@ pub enum Change {
 }
 
 impl Change {
-    pub(crate) fn apply(self, case: &mut Case) -> Result<(), AllocError> {
+    pub(crate) fn apply(self, case: &mut Case) {
         match self {
             Change::Nothing => {}
             Change::Dimension(n) => case.counts.dimension = n,
-            Change::Length(n) => case.flux.resize(n, 1.0)?,
+            Change::Length(n) => case.flux.length = n,
             Change::Number(part, n) => *case.number_mut(part) = n,
             Change::Whole(part, i, n) => {
                 if let Some(slice) = case.whole_mut(part)
@@ -51,6 +50,5 @@ impl Change {
                 }
             }
         }
-        Ok(())
     }
 }

@@ -32,8 +32,8 @@ impl fmt::Display for Told<'_> {
 
 fn main(rt: HostRuntime) -> io::Result<()> {
     for (name, change) in cases::CASES {
-        let mut case = case::base(rt.alloc())?;
-        change.apply(&mut case)?;
+        let mut case = case::base();
+        change.apply(&mut case);
         let answer = case.call();
         let flux = case.flux.as_slice();
         println!(rt;

@@ -14,23 +14,18 @@ const INDICES: [usize; 4] = [0, 7, 65535, usize::MAX];
 // The length of a slice that has several bytes more than any sentence needs.
 const WIDE: usize = 44;
 
-// A call with a slice of so many bytes, and its line.
-fn call<R: Print + AllocGlobal>(
-    rt: &R,
-    number: u64,
-    index: usize,
-    name: &str,
-    length: usize,
-) -> io::Result<()> {
-    let mut slice = vec![in rt.alloc(); b'#'; length]?;
-    let needed = sentence::sentence(number, index, &mut slice);
+// A call with a slice of so many bytes, WIDE at most, and its line.
+fn call(rt: &impl Print, number: u64, index: usize, name: &str, length: usize) -> io::Result<()> {
+    let mut bytes = [b'#'; WIDE];
+    let slice = &mut bytes[..length.min(WIDE)];
+    let needed = sentence::sentence(number, index, slice);
     print!(rt; "{number} {index} {name}: needs {needed} |")?;
-    rt.write_all(&slice)?;
+    rt.write_all(slice)?;
     println!(rt; "|")
 }
 
 // A refusal with slices that are one byte short, that fit, that have one byte more and several more.
-fn slices<R: Print + AllocGlobal>(rt: &R, number: u64, index: usize) -> io::Result<()> {
+fn slices(rt: &impl Print, number: u64, index: usize) -> io::Result<()> {
     let needed = sentence::sentence(number, index, &mut []);
     if 0 < needed {
         call(rt, number, index, "short", needed - 1)?;

@@ -1,5 +1,5 @@
-// The call of each entry. An output is as long as what the case has by its name: a `Vec`, or an array where that has
-// one length in every case.
+// The call of each entry. An output is as long as what the case has by its name: an array where that has one length in
+// every case, and else the front of one.
 use crate::case::Case;
 use crate::output::{Output, Told};
 use mesh::Answer;
@@ -9,25 +9,34 @@ use std::io;
 use stencil::StencilMut;
 use step::{Fields, Outputs};
 
+// The most numbers of an output whose length differs: the base has room for 7 records, each of 4 weights and of 2 whole
+// numbers, and no case for more.
+const WEIGHTS: usize = 28;
+
+const EQUATIONS: usize = 14;
+
+// The first n numbers of an output's array. Where it has fewer, as it has in no case, all of them.
+fn front<T>(numbers: &mut [T], n: usize) -> &mut [T] {
+    let n = n.min(numbers.len());
+    &mut numbers[..n]
+}
+
 fn tell(rt: &impl Print, answer: Answer, outputs: &[Output<'_>]) -> io::Result<()> {
     println!(rt; "{}", Told { answer, outputs })
 }
 
 // Makes a call with one output of n numbers, and writes the answer and the output.
-fn one<R: Print + AllocGlobal, F: FnOnce(&mut [f64]) -> Answer>(
-    rt: &R,
-    n: usize,
-    call: F,
-) -> io::Result<()>
+fn one<R: Print, F: FnOnce(&mut [f64]) -> Answer>(rt: &R, n: usize, call: F) -> io::Result<()>
     requires { F.IsAlwaysCallable call }
 {
-    let mut out = vec![in rt.alloc(); fill(); n]?;
-    let answer = call(&mut out);
-    tell(rt, answer, &[Output::Floats(&out)])
+    let mut room = [fill(); WEIGHTS];
+    let out = front(&mut room, n);
+    let answer = call(out);
+    tell(rt, answer, &[Output::Floats(out)])
 }
 
 // The same with two outputs: a closure takes each by name, so one function for both would be no plainer.
-fn two<R: Print + AllocGlobal, F: FnOnce(&mut [f64], &mut [f64]) -> Answer>(
+fn two<R: Print, F: FnOnce(&mut [f64], &mut [f64]) -> Answer>(
     rt: &R,
     n: usize,
     m: usize,
@@ -35,38 +44,32 @@ fn two<R: Print + AllocGlobal, F: FnOnce(&mut [f64], &mut [f64]) -> Answer>(
 ) -> io::Result<()>
     requires { F.IsAlwaysCallable call }
 {
-    let mut first = vec![in rt.alloc(); fill(); n]?;
-    let mut second = vec![in rt.alloc(); fill(); m]?;
-    let answer = call(&mut first, &mut second);
-    tell(
-        rt,
-        answer,
-        &[Output::Floats(&first), Output::Floats(&second)],
-    )
+    let mut first = [fill(); WEIGHTS];
+    let mut second = [fill(); WEIGHTS];
+    let first = front(&mut first, n);
+    let second = front(&mut second, m);
+    let answer = call(first, second);
+    tell(rt, answer, &[Output::Floats(first), Output::Floats(second)])
 }
 
-pub(crate) fn momentum_inverse_diagonal<R: Print + AllocGlobal>(
-    rt: &R,
-    case: &Case<'_>,
-) -> io::Result<()> {
+pub(crate) fn momentum_inverse_diagonal<R: Print>(rt: &R, case: &Case<'_>) -> io::Result<()> {
     one(rt, case.responses.values.len(), |out| {
         simple::momentum_inverse_diagonal(case.mesh.counts, case.diagonal, out)
     })
 }
 
-pub(crate) fn least_squares_stencil<R: Print + AllocGlobal>(
-    rt: &R,
-    case: &Case<'_>,
-) -> io::Result<()> {
+pub(crate) fn least_squares_stencil<R: Print>(rt: &R, case: &Case<'_>) -> io::Result<()> {
     let mut starts = [FILL; 2];
-    let mut equations = vec![in rt.alloc(); FILL; case.stencil.equations.len()]?;
-    let mut weights = vec![in rt.alloc(); fill(); case.stencil.weights.len()]?;
+    let mut equations = [FILL; EQUATIONS];
+    let mut weights = [fill(); WEIGHTS];
+    let equations = front(&mut equations, case.stencil.equations.len());
+    let weights = front(&mut weights, case.stencil.weights.len());
     let mut inverses = [fill(); 18];
     let mut out = StencilMut {
         records: case.stencil.records,
         starts: &mut starts,
-        equations: &mut equations,
-        weights: &mut weights,
+        equations,
+        weights,
         inverses: &mut inverses,
     };
     let answer = stencil::least_squares_stencil(&case.mesh, &case.conditions, &mut out);
@@ -75,32 +78,26 @@ pub(crate) fn least_squares_stencil<R: Print + AllocGlobal>(
         answer,
         &[
             Output::Whole(&starts),
-            Output::Whole(&equations),
-            Output::Floats(&weights),
+            Output::Whole(equations),
+            Output::Floats(weights),
             Output::Floats(&inverses),
         ],
     )
 }
 
-pub(crate) fn least_squares_gradient<R: Print + AllocGlobal>(
-    rt: &R,
-    case: &Case<'_>,
-) -> io::Result<()> {
+pub(crate) fn least_squares_gradient<R: Print>(rt: &R, case: &Case<'_>) -> io::Result<()> {
     one(rt, case.gradient.values.len(), |out| {
         numerics::least_squares_gradient(case.mesh.counts, &case.stencil, &case.pressure, out)
     })
 }
 
-pub(crate) fn pressure_face_coefficients<R: Print + AllocGlobal>(
-    rt: &R,
-    case: &Case<'_>,
-) -> io::Result<()> {
+pub(crate) fn pressure_face_coefficients<R: Print>(rt: &R, case: &Case<'_>) -> io::Result<()> {
     one(rt, case.coefficients.values.len(), |out| {
         simple::pressure_face_coefficients(&case.mesh.grid(), &case.responses, out)
     })
 }
 
-pub(crate) fn pressure_face_coefficients_with_boundary<R: Print + AllocGlobal>(
+pub(crate) fn pressure_face_coefficients_with_boundary<R: Print>(
     rt: &R,
     case: &Case<'_>,
 ) -> io::Result<()> {
@@ -114,10 +111,7 @@ pub(crate) fn pressure_face_coefficients_with_boundary<R: Print + AllocGlobal>(
     })
 }
 
-pub(crate) fn rhie_chow_predicted_flux<R: Print + AllocGlobal>(
-    rt: &R,
-    case: &Case<'_>,
-) -> io::Result<()> {
+pub(crate) fn rhie_chow_predicted_flux<R: Print>(rt: &R, case: &Case<'_>) -> io::Result<()> {
     let n = case.gradient.values.len();
     let m = case.predicted.values.len();
     let fields = FlowFields {
@@ -137,10 +131,7 @@ pub(crate) fn rhie_chow_predicted_flux<R: Print + AllocGlobal>(
     })
 }
 
-pub(crate) fn correct_face_flux_with_boundary<R: Print + AllocGlobal>(
-    rt: &R,
-    case: &Case<'_>,
-) -> io::Result<()> {
+pub(crate) fn correct_face_flux_with_boundary<R: Print>(rt: &R, case: &Case<'_>) -> io::Result<()> {
     let fields = Corrections {
         coefficients: case.coefficients,
         correction: case.correction,
@@ -156,7 +147,7 @@ pub(crate) fn correct_face_flux_with_boundary<R: Print + AllocGlobal>(
     })
 }
 
-pub(crate) fn correct_cell_velocity_from_gradient<R: Print + AllocGlobal>(
+pub(crate) fn correct_cell_velocity_from_gradient<R: Print>(
     rt: &R,
     case: &Case<'_>,
 ) -> io::Result<()> {
@@ -171,19 +162,13 @@ pub(crate) fn correct_cell_velocity_from_gradient<R: Print + AllocGlobal>(
     })
 }
 
-pub(crate) fn integrated_divergence<R: Print + AllocGlobal>(
-    rt: &R,
-    case: &Case<'_>,
-) -> io::Result<()> {
+pub(crate) fn integrated_divergence<R: Print>(rt: &R, case: &Case<'_>) -> io::Result<()> {
     one(rt, case.outflow.len(), |out| {
         numerics::integrated_divergence(&case.mesh.grid().faces(), &case.flux, out)
     })
 }
 
-pub(crate) fn continuity_metrics<R: Print + AllocGlobal>(
-    rt: &R,
-    case: &Case<'_>,
-) -> io::Result<()> {
+pub(crate) fn continuity_metrics<R: Print>(rt: &R, case: &Case<'_>) -> io::Result<()> {
     two(
         rt,
         case.outflow.len(),
@@ -200,7 +185,7 @@ pub(crate) fn continuity_metrics<R: Print + AllocGlobal>(
     )
 }
 
-pub(crate) fn step<R: Print + AllocGlobal>(rt: &R, case: &Case<'_>) -> io::Result<()> {
+pub(crate) fn step<R: Print>(rt: &R, case: &Case<'_>) -> io::Result<()> {
     let fields = Fields {
         velocity: case.velocity,
         pressure: case.pressure,
@@ -209,8 +194,10 @@ pub(crate) fn step<R: Print + AllocGlobal>(rt: &R, case: &Case<'_>) -> io::Resul
         correction: case.correction,
     };
     let mut starts = [FILL; 2];
-    let mut equations = vec![in rt.alloc(); FILL; case.stencil.equations.len()]?;
-    let mut weights = vec![in rt.alloc(); fill(); case.stencil.weights.len()]?;
+    let mut equations = [FILL; EQUATIONS];
+    let mut weights = [fill(); WEIGHTS];
+    let equations = front(&mut equations, case.stencil.equations.len());
+    let weights = front(&mut weights, case.stencil.weights.len());
     let mut inverses = [fill(); 18];
     let mut gradient = [fill(); 6];
     let mut predicted = [fill(); 7];
@@ -221,8 +208,8 @@ pub(crate) fn step<R: Print + AllocGlobal>(rt: &R, case: &Case<'_>) -> io::Resul
     let mut out = Outputs {
         records: case.stencil.records,
         starts: &mut starts,
-        equations: &mut equations,
-        weights: &mut weights,
+        equations,
+        weights,
         inverses: &mut inverses,
         gradient: &mut gradient,
         predicted: &mut predicted,
@@ -237,8 +224,8 @@ pub(crate) fn step<R: Print + AllocGlobal>(rt: &R, case: &Case<'_>) -> io::Resul
         answer,
         &[
             Output::Whole(&starts),
-            Output::Whole(&equations),
-            Output::Floats(&weights),
+            Output::Whole(equations),
+            Output::Floats(weights),
             Output::Floats(&inverses),
             Output::Floats(&gradient),
             Output::Floats(&predicted),

@@ -1,8 +1,7 @@
 // What is lent to an entry.
-use crate::change::Part;
+use crate::change::{FLOATS, Part, copy_to};
 use mesh::{Conditions, Counts, Field, Mesh};
 use numerics::Stencil;
-use std::alloc::AllocError;
 
 // An entry is lent some of these; what it hands out is as long as what the case has by that name.
 #[derive(Clone, Copy)]
@@ -124,8 +123,8 @@ pub(crate) fn base<'a>() -> Case<'a> {
 impl<'a> Case<'a> {
     // Puts a copy of the geometry in its place, with the distances of each face made anew. Where that is refused, as it
     // is in no case, they stay.
-    pub(crate) fn make_distances(&mut self, copy: &'a mut Vec<f64>) -> Result<(), AllocError> {
-        copy.extend_from_slice(self.mesh.geometry)?;
+    pub(crate) fn make_distances(&mut self, copy: &'a mut [f64; FLOATS]) {
+        copy_to(self.mesh.geometry, copy);
         let _ = mesh::face_distances(
             &self.mesh.grid().faces(),
             self.mesh.places,
@@ -134,7 +133,6 @@ impl<'a> Case<'a> {
             copy,
         );
         self.mesh.geometry = copy;
-        Ok(())
     }
 
     // The slice of whole numbers, or of floats, that a part is.

@@ -15,7 +15,7 @@ mod tables;
 
 // Writes the lines of an entry's cases: the base, with the change that the name says. Whoever takes a closure is asked
 // by the language that it may be called.
-fn run<R: Print + AllocGlobal, F: Fn(&R, &Case<'_>) -> io::Result<()>>(
+fn run<R: Print, F: Fn(&R, &Case<'_>) -> io::Result<()>>(
     rt: &R,
     entry: &str,
     cases: &[(&str, Change)],

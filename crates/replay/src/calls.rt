@@ -1,9 +1,8 @@
 // The calls of the list, made again.
 use crate::entry::Entry;
-use crate::fault::Fault;
+use crate::fault::Broken;
 use crate::words::Words;
 use mesh::{Conditions, Mesh};
-use std::alloc::Global;
 
 mod equations;
 mod of_numerics;
@@ -14,7 +13,6 @@ mod of_step;
 // What a call is made on: the mesh and the conditions that stand last above it.
 #[derive(Clone, Copy)]
 pub struct Setting<'a> {
-    pub alloc: Global,
     pub mesh: Mesh<'a>,
     pub conditions: Conditions<'a>,
 }
@@ -22,7 +20,7 @@ pub struct Setting<'a> {
 impl<'a> Setting<'a> {
     // Whether the call of an entry agrees with the list. The words of a call start with the number of
     // equation records.
-    pub fn agrees(&self, entry: Entry, mut words: Words<'a>) -> Result<bool, Fault> {
+    pub fn agrees(&self, entry: Entry, mut words: Words<'a>) -> Result<bool, Broken> {
         let records = words.number()?;
         match entry {
             Entry::MomentumInverseDiagonal => self.diagonal(words),

@@ -1,5 +1,4 @@
 // Why a list is not replayed to its end.
-use std::alloc::AllocError;
 use std::io;
 use thiserror::Error;
 
@@ -18,6 +17,4 @@ pub enum Fault {
     Broken(#[from] Broken),
     #[error(transparent)]
     Io(#[from] io::Error),
-    #[error(transparent)]
-    Memory(#[from(alloc)] AllocError),
 }

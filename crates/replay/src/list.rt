@@ -1,8 +1,8 @@
 // The text of a list, read line by line.
 use crate::blocks::Blocks;
-use crate::fault::{Broken, Fault};
+use crate::fault::Broken;
 use crate::words::Words;
-use std::alloc::Global;
+use arrayvec::ArrayVec;
 
 // The most words that a list has.
 const WORDS: usize = 65536;
@@ -11,45 +11,45 @@ const WORDS: usize = 65536;
 // that they stand on.
 #[derive(Drop)]
 pub struct List {
-    numbers: Vec<usize>,
-    reals: Vec<f64>,
-    lines: Vec<u64>,
+    numbers: ArrayVec<usize, WORDS>,
+    reals: ArrayVec<f64, WORDS>,
+    lines: ArrayVec<u64, WORDS>,
 }
 
 impl List {
+    pub fn new() -> List {
+        List {
+            numbers: ArrayVec::new(),
+            reals: ArrayVec::new(),
+            lines: ArrayVec::new(),
+        }
+    }
+
     // Each line is a comment or a word, and ends in a newline.
-    pub fn parse(alloc: Global, text: &[u8]) -> Result<List, Fault> {
-        let mut list = List {
-            numbers: Vec::new(alloc),
-            reals: Vec::new(alloc),
-            lines: Vec::new(alloc),
-        };
+    pub fn parse(&mut self, text: &[u8]) -> Result<(), Broken> {
         for (line, text) in (1..).zip(text.split_inclusive(|b| *b == b'\n')) {
             let text = text.strip_suffix(b"\n").ok_or(Broken { line })?;
             if !text.starts_with(b"#") {
-                list.push(pattern::inner::hex(text).ok_or(Broken { line })?, line)?;
+                self.push(pattern::inner::hex(text).ok_or(Broken { line })?, line)?;
             }
         }
-        Ok(list)
+        Ok(())
     }
 
-    fn push(&mut self, word: u64, line: u64) -> Result<(), Fault> {
-        if self.lines.len() == WORDS {
-            return Err(Fault::Broken(Broken { line }));
-        }
-        self.numbers.push(word as usize)?;
-        self.reals.push(pattern::value(word))?;
-        self.lines.push(line)?;
-        Ok(())
+    fn push(&mut self, word: u64, line: u64) -> Result<(), Broken> {
+        let fits = self.numbers.try_push(word as usize).is_ok()
+            && self.reals.try_push(pattern::value(word)).is_ok()
+            && self.lines.try_push(line).is_ok();
+        if fits { Ok(()) } else { Err(Broken { line }) }
     }
 
     pub fn blocks(&self) -> Blocks<'_> {
         Blocks {
             words: Words {
                 block: 0,
-                numbers: &self.numbers,
-                reals: &self.reals,
-                lines: &self.lines,
+                numbers: self.numbers.as_slice(),
+                reals: self.reals.as_slice(),
+                lines: self.lines.as_slice(),
             },
         }
     }

@@ -25,15 +25,32 @@ mod words;
 const TOO_MANY_BYTES: usize = 1310720;
 
 // Standard input, or as much of it as is too long for a list.
-fn text_of_input(rt: &(impl Input + AllocGlobal)) -> Result<Vec<u8>, Fault> {
-    let mut text = Vec::new(rt.alloc());
-    rt.reader()
-        .take(TOO_MANY_BYTES as u64)
-        .read_to_end(&mut text)?;
-    if text.len() == TOO_MANY_BYTES {
+fn text_of_input<'a>(
+    rt: &impl Input,
+    text: &'a mut [u8; TOO_MANY_BYTES],
+) -> Result<&'a [u8], Fault> {
+    let mut input = rt.reader();
+    let mut n = 0;
+    while n < TOO_MANY_BYTES {
+        let more = input.read(&mut text[n..])?;
+        if more == 0 {
+            break;
+        }
+        n += more;
+    }
+    if n == TOO_MANY_BYTES {
         return Err(Fault::TooLong);
     }
-    Ok(text)
+    Ok(&text[..n])
+}
+
+// Reads the list. The room for its text is this function's alone, and free again when calls are made.
+#[inline(never)]
+fn read_list(rt: &impl Input, list: &mut List) -> Result<(), Fault> {
+    let mut text = [0; TOO_MANY_BYTES];
+    let text = text_of_input(rt, &mut text)?;
+    list.parse(text)?;
+    Ok(())
 }
 
 // Takes the root of the first number of each pair.
@@ -56,8 +73,8 @@ fn compare_roots(rt: &impl Print, words: Words<'_>, tally: &mut Tally) -> Result
 }
 
 // Makes the calls of a list, on the mesh and the conditions that stand last above each.
-fn replay(rt: &(impl Print + AllocGlobal), list: &List) -> Result<Tally, Fault> {
-    let mut tally = Tally::new(rt.alloc());
+fn replay(rt: &impl Print, list: &List) -> Result<Tally, Fault> {
+    let mut tally = Tally::default();
     let mut last_mesh = None;
     let mut last_conditions = None;
     for block in list.blocks() {
@@ -69,11 +86,7 @@ fn replay(rt: &(impl Print + AllocGlobal), list: &List) -> Result<Tally, Fault> 
                 let (Some(mesh), Some(conditions)) = (last_mesh, last_conditions) else {
                     return Err(Fault::Broken(words.broken()));
                 };
-                let setting = Setting {
-                    alloc: rt.alloc(),
-                    mesh,
-                    conditions,
-                };
+                let setting = Setting { mesh, conditions };
                 let agrees = setting.agrees(entry, words)?;
                 tally.count(rt, Subject::Calls(entry), agrees, words.block)?;
             }
@@ -82,9 +95,9 @@ fn replay(rt: &(impl Print + AllocGlobal), list: &List) -> Result<Tally, Fault> 
     Ok(tally)
 }
 
-fn run(rt: &(impl Input + Print + AllocGlobal)) -> Result<Tally, Fault> {
-    let text = text_of_input(rt)?;
-    let list = List::parse(rt.alloc(), &text)?;
+fn run(rt: &(impl Input + Print)) -> Result<Tally, Fault> {
+    let mut list = List::new();
+    read_list(rt, &mut list)?;
     replay(rt, &list)
 }
 
@@ -92,7 +105,6 @@ fn main(rt: HostRuntime) -> io::Result<()> {
     match run(&rt) {
         Ok(tally) => print!(rt; "{tally}"),
         Err(Fault::Io(error)) => Err(error),
-        Err(Fault::Memory(error)) => Err(error.into()),
         Err(fault) => println!(rt; "{fault}"),
     }
 }

@@ -1,13 +1,12 @@
 // What the list says of a call's answer, and of what the outputs hold after it.
-ghost use Rattle.std.specs.Prelude.{◌≤◌, IfOk, vec_len};
+ghost use Rattle.std.specs.Prelude.{◌≤◌, length, IfOk};
 
-use crate::fault::{Broken, Fault};
+use crate::fault::Broken;
 use crate::words::Words;
 use mesh::Answer;
 use pattern::word::Word;
 use pattern::{FILL, fill};
 use refusal::Refusal;
-use std::alloc::Global;
 
 // The longest output of a call. Of the outputs of a refused call a list has the lengths alone, and a wrong one
 // must not take memory without bound.
@@ -42,8 +41,8 @@ pub struct Outputs<'a> {
 
 // An output, and what it is to hold: the words listed, and `rest` past their end.
 #[derive(Drop)]
-pub struct Output<'a, T: Word> {
-    pub values: Vec<T>,
+pub struct Output<'a, 'b, T: Word> {
+    pub values: &'b mut [T],
     listed: &'a [usize],
     rest: usize,
 }
@@ -63,9 +62,9 @@ impl Refused {
     }
 }
 
-impl<T: Word> Output<'_, T> {
+impl<T: Word> Output<'_, '_, T> {
     pub fn is_right(&self) -> bool {
-        pattern::inner::holds(&self.values, self.listed, self.rest)
+        pattern::inner::holds(self.values, self.listed, self.rest)
     }
 }
 
@@ -100,20 +99,23 @@ impl<'a> Words<'a> {
 }
 
 impl<'a> Outputs<'a> {
-    // The next output, each of its numbers `fill`.
-    pub fn output<T: Word>(&mut self, alloc: Global, fill: T) -> Result<Output<'a, T>, Fault>
-        ensures { IfOk result (λ output. vec_len output.values ≤ 1024) }
+    // The next output: the front of a room, which the caller has filled.
+    pub fn output<'b, T: Word>(
+        &mut self,
+        room: &'b mut [T; LONGEST],
+    ) -> Result<Output<'a, 'b, T>, Broken>
+        ensures { IfOk result (λ output. length output.values.now ≤ 1024) }
     {
         let n = self.lengths.number()?;
         if n > LONGEST {
-            return Err(Fault::Broken(self.listed.broken()));
+            return Err(self.listed.broken());
         }
         let (listed, rest) = match self.verdict {
             Ok(()) => (n, 0),
             Err(refused) => (0, usize::from(refused.left)),
         };
         Ok(Output {
-            values: Vec::from_elem(alloc, fill, n)?,
+            values: &mut room[..n],
             listed: self.listed.take(listed)?.numbers,
             rest,
         })
@@ -133,27 +135,25 @@ impl<'a> Outputs<'a> {
 
 impl<'a> Words<'a> {
     // Makes a call with one output; whether the answer and the output are right.
-    pub fn one<F: FnOnce(&mut [f64]) -> Answer>(self, alloc: Global, call: F) -> Result<bool, Fault>
+    pub fn one<F: FnOnce(&mut [f64]) -> Answer>(self, call: F) -> Result<bool, Broken>
         requires { F.IsAlwaysCallable call }
     {
+        let mut room = [fill(); LONGEST];
         let mut outputs = self.outputs(1)?;
-        let mut out = outputs.output(alloc, fill())?;
-        let answer = call(&mut out.values);
+        let out = outputs.output(&mut room)?;
+        let answer = call(&mut *out.values);
         Ok(outputs.is_right(answer)? && out.is_right())
     }
 
     // The same with two outputs: a closure takes each by name, so one function for both would be no plainer.
-    pub fn two<F: FnOnce(&mut [f64], &mut [f64]) -> Answer>(
-        self,
-        alloc: Global,
-        call: F,
-    ) -> Result<bool, Fault>
+    pub fn two<F: FnOnce(&mut [f64], &mut [f64]) -> Answer>(self, call: F) -> Result<bool, Broken>
         requires { F.IsAlwaysCallable call }
     {
+        let mut rooms = ([fill(); LONGEST], [fill(); LONGEST]);
         let mut outputs = self.outputs(2)?;
-        let mut first = outputs.output(alloc, fill())?;
-        let mut second = outputs.output(alloc, fill())?;
-        let answer = call(&mut first.values, &mut second.values);
+        let first = outputs.output(&mut rooms.0)?;
+        let second = outputs.output(&mut rooms.1)?;
+        let answer = call(&mut *first.values, &mut *second.values);
         Ok(outputs.is_right(answer)? && first.is_right() && second.is_right())
     }
 }

@@ -1,12 +1,9 @@
 // How many roots and calls agree with the list, and how many differ.
 use crate::entry::Entry;
-use crate::fault::Fault;
-use std::alloc::Global;
-use std::collections::BTreeMap;
-use std::fmt;
+use std::{fmt, io};
 
 // What is compared with the list.
-#[derive(Clone, Copy, PartialEq, Eq, PartialOrd, Ord)]
+#[derive(Clone, Copy)]
 pub enum Subject {
     Roots,
     Calls(Entry),
@@ -18,18 +15,11 @@ struct Count {
     differ: usize,
 }
 
-#[derive(Drop)]
+// The counts of the calls stand in the order of `Entry::ALL`.
+#[derive(Clone, Copy, Default)]
 pub struct Tally {
-    counts: BTreeMap<Subject, Count>,
-}
-
-impl fmt::Display for Subject {
-    fn fmt<W: fmt::Write>(&self, f: &mut fmt::Formatter<W>) -> fmt::Result {
-        match self {
-            Subject::Roots => write!(f, "roots"),
-            Subject::Calls(entry) => write!(f, "{entry}"),
-        }
-    }
+    roots: Count,
+    calls: [Count; 11],
 }
 
 impl fmt::Display for Count {
@@ -38,13 +28,18 @@ impl fmt::Display for Count {
     }
 }
 
-impl Tally {
-    pub fn new(alloc: Global) -> Tally {
-        Tally {
-            counts: BTreeMap::new(alloc),
-        }
+impl Count {
+    fn add(&mut self, agrees: bool) {
+        let n = if agrees {
+            &mut self.agree
+        } else {
+            &mut self.differ
+        };
+        *n = n.saturating_add(1);
     }
+}
 
+impl Tally {
     // Counts what was compared, and writes its line where it differs.
     pub fn count(
         &mut self,
@@ -52,36 +47,31 @@ impl Tally {
         subject: Subject,
         agrees: bool,
         line: u64,
-    ) -> Result<(), Fault> {
+    ) -> io::Result<()> {
         if !agrees {
             println!(rt; "line {line}: differs")?;
         }
-        let count = self.counts.entry(subject)?.or_default();
-        let n = if agrees {
-            &mut count.agree
-        } else {
-            &mut count.differ
-        };
-        *n = n.saturating_add(1);
+        match subject {
+            Subject::Roots => self.roots.add(agrees),
+            Subject::Calls(entry) => {
+                for (count, other) in self.calls.iter_mut().zip(Entry::ALL) {
+                    if other == entry {
+                        count.add(agrees);
+                    }
+                }
+            }
+        }
         Ok(())
-    }
-
-    fn write_line<W: fmt::Write>(
-        &self,
-        f: &mut fmt::Formatter<W>,
-        subject: Subject,
-    ) -> fmt::Result {
-        let count = self.counts.get(&subject).copied().unwrap_or_default();
-        writeln!(f, "{subject}: {count}")
     }
 }
 
-// A line for each subject, counted or not.
+// A line for the roots and for each entry, counted or not.
 impl fmt::Display for Tally {
     fn fmt<W: fmt::Write>(&self, f: &mut fmt::Formatter<W>) -> fmt::Result {
-        self.write_line(f, Subject::Roots)?;
-        for entry in Entry::ALL {
-            self.write_line(f, Subject::Calls(entry))?;
+        let roots = self.roots;
+        writeln!(f, "roots: {roots}")?;
+        for (entry, count) in Entry::ALL.iter().zip(&self.calls) {
+            writeln!(f, "{entry}: {count}")?;
         }
         Ok(())
     }

@@ -2,13 +2,16 @@
 ghost use Rattle.std.specs.Prelude.{◌*◌, ◌≤◌};
 
 use crate::calls::Setting;
-use crate::fault::Fault;
+use crate::fault::Broken;
 use crate::outputs::LONGEST;
 use crate::words::Words;
 use mesh::Field;
 use numerics::Stencil;
 use pattern::fill;
 use vector::Vec3;
+
+// As many records as the longest output has numbers for.
+const RECORDS: usize = LONGEST / 3;
 
 // How many records are lent where the list has an output of n numbers: a third as many, and none
 // where that is not whole, since no mesh has that length.
@@ -24,23 +27,25 @@ impl<'a> Setting<'a> {
         stencil: &Stencil<'_>,
         pressure: &Field<'_>,
         words: Words<'a>,
-    ) -> Result<bool, Fault> {
+    ) -> Result<bool, Broken> {
         let mut outputs = words.outputs(1)?;
-        let mut out = outputs.output(self.alloc, fill())?;
+        let mut room = [fill(); LONGEST];
+        let out = outputs.output(&mut room)?;
         let filled = Vec3 {
             x: fill(),
             y: fill(),
             z: fill(),
         };
-        let mut gradients = Vec::from_elem(self.alloc, filled, records_of(out.values.len()))?;
+        let mut gradients = [filled; RECORDS];
+        let gradients = &mut gradients[..records_of(out.values.len())];
         let answer = records::least_squares_gradient(
             self.mesh.counts,
             stencil,
             pressure,
-            &mut gradients,
+            gradients,
         );
         let (numbers, _) = out.values.as_chunks_mut::<3>();
-        for (components, gradient) in numbers.iter_mut().zip(&gradients) {
+        for (components, gradient) in numbers.iter_mut().zip(&*gradients) {
             *components = [gradient.x, gradient.y, gradient.z];
         }
         // the last of the longest output stands in no record, and is handed out as 0

@@ -1,79 +1,48 @@
 // The calls of `step`.
 use crate::calls::Setting;
-use crate::fault::Fault;
-use crate::outputs::{Output, Outputs};
+use crate::fault::Broken;
+use crate::outputs::LONGEST;
 use crate::words::Words;
-use mesh::Answer;
 use pattern::{FILL, fill};
-use std::alloc::Global;
 use step::Fields;
 
-// The outputs of a step, and what they are to hold. Each is a field of its own: outputs that come as an array of
-// a const parameter's length were tried, and the borrow checker does not cover such arrays of structs that
-// own memory and name a lifetime.
-#[derive(Drop)]
-struct Handed<'a> {
-    starts: Output<'a, usize>,
-    equations: Output<'a, usize>,
-    weights: Output<'a, f64>,
-    inverses: Output<'a, f64>,
-    gradient: Output<'a, f64>,
-    predicted: Output<'a, f64>,
-    coefficients: Output<'a, f64>,
-    flux: Output<'a, f64>,
-    outflow: Output<'a, f64>,
-    metrics: Output<'a, f64>,
+// Room for the outputs of a step. Each is a field of its own: outputs that come as an array of a const parameter's
+// length were tried, and the borrow checker does not cover such arrays of structs that name a lifetime.
+#[derive(Clone, Copy)]
+struct Rooms {
+    starts: [usize; LONGEST],
+    equations: [usize; LONGEST],
+    weights: [f64; LONGEST],
+    inverses: [f64; LONGEST],
+    gradient: [f64; LONGEST],
+    predicted: [f64; LONGEST],
+    coefficients: [f64; LONGEST],
+    flux: [f64; LONGEST],
+    outflow: [f64; LONGEST],
+    metrics: [f64; LONGEST],
 }
 
-impl<'a> Handed<'a> {
-    fn of(outputs: &mut Outputs<'a>, alloc: Global) -> Result<Handed<'a>, Fault> {
-        Ok(Handed {
-            starts: outputs.output(alloc, FILL)?,
-            equations: outputs.output(alloc, FILL)?,
-            weights: outputs.output(alloc, fill())?,
-            inverses: outputs.output(alloc, fill())?,
-            gradient: outputs.output(alloc, fill())?,
-            predicted: outputs.output(alloc, fill())?,
-            coefficients: outputs.output(alloc, fill())?,
-            flux: outputs.output(alloc, fill())?,
-            outflow: outputs.output(alloc, fill())?,
-            metrics: outputs.output(alloc, fill())?,
-        })
-    }
-
-    fn step(&mut self, setting: &Setting<'_>, records: usize, fields: &Fields<'_>) -> Answer {
-        let mut out = step::Outputs {
-            records,
-            starts: &mut self.starts.values,
-            equations: &mut self.equations.values,
-            weights: &mut self.weights.values,
-            inverses: &mut self.inverses.values,
-            gradient: &mut self.gradient.values,
-            predicted: &mut self.predicted.values,
-            coefficients: &mut self.coefficients.values,
-            flux: &mut self.flux.values,
-            outflow: &mut self.outflow.values,
-            metrics: &mut self.metrics.values,
-        };
-        step::step(&setting.mesh, &setting.conditions, fields, &mut out)
-    }
-
-    fn is_right(&self) -> bool {
-        self.starts.is_right()
-            && self.equations.is_right()
-            && self.weights.is_right()
-            && self.inverses.is_right()
-            && self.gradient.is_right()
-            && self.predicted.is_right()
-            && self.coefficients.is_right()
-            && self.flux.is_right()
-            && self.outflow.is_right()
-            && self.metrics.is_right()
+impl Rooms {
+    fn new() -> Rooms {
+        let numbers = [FILL; LONGEST];
+        let reals = [fill(); LONGEST];
+        Rooms {
+            starts: numbers,
+            equations: numbers,
+            weights: reals,
+            inverses: reals,
+            gradient: reals,
+            predicted: reals,
+            coefficients: reals,
+            flux: reals,
+            outflow: reals,
+            metrics: reals,
+        }
     }
 }
 
 impl<'a> Setting<'a> {
-    pub(crate) fn step(&self, records: usize, mut words: Words<'a>) -> Result<bool, Fault> {
+    pub(crate) fn step(&self, records: usize, mut words: Words<'a>) -> Result<bool, Broken> {
         let fields = Fields {
             velocity: words.field()?,
             pressure: words.field()?,
@@ -81,9 +50,44 @@ impl<'a> Setting<'a> {
             walls: words.field()?,
             correction: words.field()?,
         };
+        let mut rooms = Rooms::new();
         let mut outputs = words.outputs(10)?;
-        let mut handed = Handed::of(&mut outputs, self.alloc)?;
-        let answer = handed.step(self, records, &fields);
-        Ok(outputs.is_right(answer)? && handed.is_right())
+        let starts = outputs.output(&mut rooms.starts)?;
+        let equations = outputs.output(&mut rooms.equations)?;
+        let weights = outputs.output(&mut rooms.weights)?;
+        let inverses = outputs.output(&mut rooms.inverses)?;
+        let gradient = outputs.output(&mut rooms.gradient)?;
+        let predicted = outputs.output(&mut rooms.predicted)?;
+        let coefficients = outputs.output(&mut rooms.coefficients)?;
+        let flux = outputs.output(&mut rooms.flux)?;
+        let outflow = outputs.output(&mut rooms.outflow)?;
+        let metrics = outputs.output(&mut rooms.metrics)?;
+        let mut out = step::Outputs {
+            records,
+            starts: &mut *starts.values,
+            equations: &mut *equations.values,
+            weights: &mut *weights.values,
+            inverses: &mut *inverses.values,
+            gradient: &mut *gradient.values,
+            predicted: &mut *predicted.values,
+            coefficients: &mut *coefficients.values,
+            flux: &mut *flux.values,
+            outflow: &mut *outflow.values,
+            metrics: &mut *metrics.values,
+        };
+        let answer = step::step(&self.mesh, &self.conditions, &fields, &mut out);
+        Ok(
+            outputs.is_right(answer)?
+                && starts.is_right()
+                && equations.is_right()
+                && weights.is_right()
+                && inverses.is_right()
+                && gradient.is_right()
+                && predicted.is_right()
+                && coefficients.is_right()
+                && flux.is_right()
+                && outflow.is_right()
+                && metrics.is_right(),
+        )
     }
 }
